@@ -1,0 +1,12 @@
+// The worked examples of the format, each proved of the definitions that the readers and writers are held to.
+ghost use lib.ListN.{length};
+ghost use mathlib.Core.Path.{_≡_};
+ghost use Rattle.examples.specs.Rows.{rows, Stand};
+
+// How many worked examples there are; every one of them stands.
+pub fn examples_stand() -> usize
+    ensures count { λ r. ⌜ r ≡ length rows ⌝ }
+    ensures stand { λ _. ⌜ Stand rows ⌝ }
+{
+    5
+}

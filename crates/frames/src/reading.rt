@@ -1,0 +1,98 @@
+// Octets to frames.
+ghost use Prim.Native.Nat.{_+_, _≤_};
+ghost use lib.ListN.{length};
+ghost use mathlib.Core.Path.{_≡_};
+ghost use Rattle.elements.specs.Reading.{numberAt};
+ghost use Rattle.frames.specs.Format.{headerRead, frameIn, ReadsExactly};
+use crate::frame::Frame;
+use crate::frame::Header;
+use elements::fault::Fault;
+use elements::fault::FaultKind;
+use elements::node::NodeNumber;
+use messages::reading::read_message_in_frame;
+
+// A frame has this many octets at least, its own ten and a message type, and this many at most.
+const SHORTEST: usize = 11;
+
+const LONGEST: usize = 64;
+
+// The number in the four octets from `at` on.
+fn number(octets: &[u8], at: usize) -> u32
+    requires { ⌜ at + 4 ≤ length (now octets) ⌝ }
+    ensures { λ r. ⌜ r ≡ numberAt (now (octets .entry)) at ⌝ }
+{
+    u32::from_be_bytes([octets[at], octets[at + 1], octets[at + 2], octets[at + 3]])
+}
+
+// Nodes and stamps, or the first fault among them.
+fn header(octets: &[u8]) -> Result<Header, Fault>
+    ensures { λ r. ⌜ r ≡ headerRead (now (octets .entry)) ⌝ }
+{
+    let size = octets.len();
+    if size < SHORTEST {
+        return Err(Fault {
+            kind: FaultKind::FrameSize,
+            place: size,
+        });
+    }
+    if size > LONGEST {
+        return Err(Fault {
+            kind: FaultKind::FrameSize,
+            place: LONGEST,
+        });
+    }
+    let source = NodeNumber { number: octets[0] };
+    let destination = NodeNumber { number: octets[1] };
+    if !source.is_lawful() {
+        return Err(Fault {
+            kind: FaultKind::Nodes,
+            place: 0,
+        });
+    }
+    if !destination.is_lawful() {
+        return Err(Fault {
+            kind: FaultKind::Nodes,
+            place: 1,
+        });
+    }
+    if source.is(destination) {
+        return Err(Fault {
+            kind: FaultKind::Nodes,
+            place: 0,
+        });
+    }
+    let stamp = number(octets, 2);
+    if stamp == 0 {
+        return Err(Fault {
+            kind: FaultKind::Stamp,
+            place: 2,
+        });
+    }
+    Ok(Header {
+        source,
+        destination,
+        stamp,
+        answers: number(octets, 6),
+    })
+}
+
+// The frame that these octets are, or the first fault.
+pub fn read_frame(octets: &[u8]) -> Result<Frame, Fault>
+    ensures value { λ r. ⌜ r ≡ frameIn (now (octets .entry)) ⌝ }
+    ensures exactly { λ r. ⌜ ReadsExactly (now (octets .entry)) r ⌝ }
+{
+    let Header {
+        source,
+        destination,
+        stamp,
+        answers,
+    } = header(octets)?;
+    let message = read_message_in_frame(octets)?;
+    Ok(Frame {
+        source,
+        destination,
+        stamp,
+        answers,
+        message,
+    })
+}

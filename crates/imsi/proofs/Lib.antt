@@ -1,0 +1,4 @@
+pub mod Nibbles
+pub mod Values
+pub mod Spelt
+pub mod Round

@@ -1,0 +1,4 @@
+pub mod Lawful
+pub mod Spelling
+pub mod Reading
+pub mod Writing
