@@ -1,6 +1,6 @@
 // What can be wrong with octets, or with what is to be written.
 ghost use mathlib.Core.Path.{_≡_};
-ghost use Rattle.elements.specs.Faults.{faultNumber, faultLayer};
+ghost use Rattle.elements.specs.Faults.{faultNumber, faultLayer, wrong};
 
 // The part of the format that a fault belongs to.
 #[derive(Clone, Copy, PartialEq)]
@@ -69,4 +69,11 @@ impl FaultKind {
 pub struct Fault {
     pub kind: FaultKind,
     pub place: usize,
+}
+
+// A refusal of this kind at this place.
+pub fn refused<X>(kind: FaultKind, place: usize) -> Result<X, Fault>
+    ensures { λ r. ⌜ r ≡ wrong kind place ⌝ }
+{
+    Err(Fault { kind, place })
 }

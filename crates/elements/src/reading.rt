@@ -10,6 +10,7 @@ use crate::code::Coded;
 use crate::element::Element;
 use crate::fault::Fault;
 use crate::fault::FaultKind;
+use crate::fault::refused;
 use imsi::reading::digits_in;
 
 // Does the identifier of `element` stand at `at`?
@@ -24,24 +25,15 @@ pub fn content_count(octets: &[u8], at: usize, element: Element) -> Result<usize
     ensures { λ r. ⌜ r ≡ elementAt (now (octets .entry)) at element ⌝ }
 {
     if !is_next(octets, at, element) {
-        return Err(Fault {
-            kind: FaultKind::Identifier,
-            place: at,
-        });
+        return refused(FaultKind::Identifier, at);
     }
     let after = octets.len() - at;
     if after < 2 {
-        return Err(Fault {
-            kind: FaultKind::Length,
-            place: at + 1,
-        });
+        return refused(FaultKind::Length, at + 1);
     }
     let count = octets[at + 1] as usize;
     if count < element.least() || count > element.most() || count > after - 2 {
-        return Err(Fault {
-            kind: FaultKind::Length,
-            place: at + 1,
-        });
+        return refused(FaultKind::Length, at + 1);
     }
     Ok(count)
 }
@@ -53,10 +45,7 @@ pub fn coded<T: Coded>(octets: &[u8], at: usize, element: Element) -> Result<T, 
     let _count = content_count(octets, at, element)?;
     match T::from_octet(octets[at + 2]) {
         Some(value) => Ok(value),
-        None => Err(Fault {
-            kind: FaultKind::Contents,
-            place: at + 2,
-        }),
+        None => refused(FaultKind::Contents, at + 2),
     }
 }
 
@@ -67,10 +56,7 @@ pub fn imsi_digits(octets: &[u8], at: usize) -> Result<(u8, u64), Fault>
     let count = content_count(octets, at, Element::Imsi)?;
     match digits_in(&octets[at + 2..at + 2 + count]) {
         Some(digits) => Ok(digits),
-        None => Err(Fault {
-            kind: FaultKind::Contents,
-            place: at + 2,
-        }),
+        None => refused(FaultKind::Contents, at + 2),
     }
 }
 
@@ -101,10 +87,7 @@ pub fn channel(octets: &[u8], at: usize) -> Result<Option<u8>, Fault>
     let _count = content_count(octets, at, Element::Channel)?;
     let number = octets[at + 2];
     if number > 3 {
-        return Err(Fault {
-            kind: FaultKind::Contents,
-            place: at + 2,
-        });
+        return refused(FaultKind::Contents, at + 2);
     }
     Ok(Some(number))
 }

@@ -8,6 +8,7 @@ use crate::frame::Frame;
 use crate::frame::Header;
 use elements::fault::Fault;
 use elements::fault::FaultKind;
+use elements::fault::refused;
 use elements::node::NodeNumber;
 use messages::reading::read_message_in_frame;
 
@@ -30,43 +31,25 @@ fn header(octets: &[u8]) -> Result<Header, Fault>
 {
     let size = octets.len();
     if size < SHORTEST {
-        return Err(Fault {
-            kind: FaultKind::FrameSize,
-            place: size,
-        });
+        return refused(FaultKind::FrameSize, size);
     }
     if size > LONGEST {
-        return Err(Fault {
-            kind: FaultKind::FrameSize,
-            place: LONGEST,
-        });
+        return refused(FaultKind::FrameSize, LONGEST);
     }
     let source = NodeNumber { number: octets[0] };
     let destination = NodeNumber { number: octets[1] };
     if !source.is_lawful() {
-        return Err(Fault {
-            kind: FaultKind::Nodes,
-            place: 0,
-        });
+        return refused(FaultKind::Nodes, 0);
     }
     if !destination.is_lawful() {
-        return Err(Fault {
-            kind: FaultKind::Nodes,
-            place: 1,
-        });
+        return refused(FaultKind::Nodes, 1);
     }
     if source.is(destination) {
-        return Err(Fault {
-            kind: FaultKind::Nodes,
-            place: 0,
-        });
+        return refused(FaultKind::Nodes, 0);
     }
     let stamp = number(octets, 2);
     if stamp == 0 {
-        return Err(Fault {
-            kind: FaultKind::Stamp,
-            place: 2,
-        });
+        return refused(FaultKind::Stamp, 2);
     }
     Ok(Header {
         source,

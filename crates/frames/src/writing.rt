@@ -8,6 +8,7 @@ ghost use Rattle.frames.specs.Writing.{frameWritten, frameLeft, ReadBack};
 use crate::frame::Frame;
 use elements::fault::Fault;
 use elements::fault::FaultKind;
+use elements::fault::refused;
 use elements::node::NodeNumber;
 use messages::writing::write_message_in_frame;
 
@@ -53,16 +54,10 @@ pub fn write_frame(frame: Frame, buffer: &mut [u8]) -> Result<usize, Fault>
     ensures back { λ r. ⌜ ReadBack frame (now (buffer .exit)) r ⌝ }
 {
     if !may_go(frame.source, frame.destination) {
-        return Err(Fault {
-            kind: FaultKind::Nodes,
-            place: 0,
-        });
+        return refused(FaultKind::Nodes, 0);
     }
     if frame.stamp == 0 {
-        return Err(Fault {
-            kind: FaultKind::Stamp,
-            place: 0,
-        });
+        return refused(FaultKind::Stamp, 0);
     }
     match write_message_in_frame(frame.message, buffer) {
         Ok(end) => {

@@ -1,6 +1,7 @@
 // What a message says.
 ghost use mathlib.Core.Path.{_≡_};
 ghost use Rattle.messages.specs.Lawful.{lawfulMessage};
+ghost use Rattle.messages.specs.Spelling.{typeOf};
 use elements::area::LocationArea;
 use elements::area::LocationAreaPartialEq;
 use elements::code::Cause;
@@ -102,6 +103,25 @@ pub enum Message {
 }
 
 impl Message {
+    pub fn type_octet(self) -> u8
+        ensures { λ r. ⌜ r ≡ typeOf self ⌝ }
+    {
+        match self {
+            Message::Paging { .. } => PAGING,
+            Message::PagingFailure { .. } => PAGING_FAILURE,
+            Message::MobileStatus { .. } => MOBILE_STATUS,
+            Message::LuRequest { .. } => LU_REQUEST,
+            Message::LuAccept { .. } => LU_ACCEPT,
+            Message::LuReject { .. } => LU_REJECT,
+            Message::Reset { .. } => RESET,
+            Message::ResetAcknowledge { .. } => RESET_ACKNOWLEDGE,
+            Message::GprsDetachIndication { .. } => GPRS_DETACH_INDICATION,
+            Message::GprsDetachAcknowledge { .. } => GPRS_DETACH_ACKNOWLEDGE,
+            Message::ImsiDetachIndication { .. } => IMSI_DETACH_INDICATION,
+            Message::ImsiDetachAcknowledge { .. } => IMSI_DETACH_ACKNOWLEDGE,
+        }
+    }
+
     // Can this be written? Its IMSI, channel, reject cause and entity must be lawful; the rest always is.
     pub fn is_lawful(self) -> bool
         ensures { λ r. ⌜ r ≡ lawfulMessage self ⌝ }

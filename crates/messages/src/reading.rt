@@ -27,6 +27,7 @@ use elements::code::UpdateTypeCoded;
 use elements::element::Element;
 use elements::fault::Fault;
 use elements::fault::FaultKind;
+use elements::fault::refused;
 use elements::node::NodeNumber;
 use elements::reading::channel;
 use elements::reading::coded;
@@ -44,10 +45,7 @@ fn end<X: Drop>(octets: &[u8], at: usize, value: X) -> Result<X, Fault>
     ensures { λ r. ⌜ r ≡ endAt (now (octets .entry)) at value ⌝ }
 {
     if at < octets.len() {
-        return Err(Fault {
-            kind: FaultKind::Trailing,
-            place: at,
-        });
+        return refused(FaultKind::Trailing, at);
     }
     Ok(value)
 }
@@ -170,10 +168,7 @@ fn message(octets: &[u8], at: usize) -> Result<Message, Fault>
     ensures { λ r. ⌜ r ≡ messageAt (now (octets .entry)) at ⌝ }
 {
     if at >= octets.len() {
-        return Err(Fault {
-            kind: FaultKind::MessageType,
-            place: at,
-        });
+        return refused(FaultKind::MessageType, at);
     }
     body(octets, at, octets[at])
 }
@@ -224,10 +219,7 @@ fn body(octets: &[u8], at: usize, type_octet: u8) -> Result<Message, Fault>
             let (imsi, detach) = imsi_and(octets, next, Element::ImsiDetachType)?;
             Ok(Message::ImsiDetachAcknowledge { imsi, detach })
         }
-        _ => Err(Fault {
-            kind: FaultKind::MessageType,
-            place: at,
-        }),
+        _ => refused(FaultKind::MessageType, at),
     }
 }
 

@@ -7,19 +7,7 @@ ghost use Rattle.messages.specs.declared.message.Message.the-variants.{Paging,
 ghost use Rattle.messages.specs.Lawful.{lawfulMessage};
 ghost use Rattle.messages.specs.Spelling.{octetsOf};
 ghost use Rattle.messages.specs.Writing.{Wrote, writtenAt, leftAt, ReadBack};
-use crate::message::GPRS_DETACH_ACKNOWLEDGE;
-use crate::message::GPRS_DETACH_INDICATION;
-use crate::message::IMSI_DETACH_ACKNOWLEDGE;
-use crate::message::IMSI_DETACH_INDICATION;
-use crate::message::LU_ACCEPT;
-use crate::message::LU_REJECT;
-use crate::message::LU_REQUEST;
-use crate::message::MOBILE_STATUS;
 use crate::message::Message;
-use crate::message::PAGING;
-use crate::message::PAGING_FAILURE;
-use crate::message::RESET;
-use crate::message::RESET_ACKNOWLEDGE;
 use crate::put::put_area;
 use crate::put::put_channel;
 use crate::put::put_entity;
@@ -39,6 +27,7 @@ use elements::code::UpdateTypeCoded;
 use elements::element::Element;
 use elements::fault::Fault;
 use elements::fault::FaultKind;
+use elements::fault::refused;
 
 // The buffer must hold the longest frame, whatever is written into it.
 pub const BUFFER_SIZE: usize = 64;
@@ -50,32 +39,20 @@ fn put_message(buffer: &mut [u8], at: usize, message: Message) -> usize
     ensures few { λ r. ⌜ r ≤ at + 31 ⌝ }
     ensures wrote { λ r. ⌜ Wrote at (octetsOf message) (now (buffer .entry)) (now (buffer .exit)) r ⌝ }
 {
+    let head = message.type_octet();
     match message {
         Message::Paging {
             imsi,
             tmsi,
             channel,
         } => {
-            let next = put_head(buffer, at, PAGING, imsi);
+            let next = put_head(buffer, at, head, imsi);
             let next = put_tmsi(buffer, next, tmsi);
             put_channel(buffer, next, channel)
         }
-        Message::PagingFailure { imsi, cause } => put_imsi_and(
-            buffer,
-            at,
-            PAGING_FAILURE,
-            imsi,
-            Element::Cause,
-            cause.octet(),
-        ),
-        Message::MobileStatus { imsi, cause } => put_imsi_and(
-            buffer,
-            at,
-            MOBILE_STATUS,
-            imsi,
-            Element::Cause,
-            cause.octet(),
-        ),
+        Message::PagingFailure { imsi, cause } | Message::MobileStatus { imsi, cause } => {
+            put_imsi_and(buffer, at, head, imsi, Element::Cause, cause.octet())
+        }
         Message::LuRequest {
             imsi,
             update,
@@ -83,66 +60,39 @@ fn put_message(buffer: &mut [u8], at: usize, message: Message) -> usize
             new_area,
             class,
         } => {
-            let next = put_head(buffer, at, LU_REQUEST, imsi);
+            let next = put_head(buffer, at, head, imsi);
             let next = put_octet(buffer, next, Element::UpdateType, update.octet());
             let next = put_area(buffer, next, Element::OldArea, old_area);
             let next = put_area(buffer, next, Element::NewArea, new_area);
             put_octet(buffer, next, Element::Class, class.octet())
         }
         Message::LuAccept { imsi, new_area } => {
-            let next = put_head(buffer, at, LU_ACCEPT, imsi);
+            let next = put_head(buffer, at, head, imsi);
             put_area(buffer, next, Element::NewArea, new_area)
         }
-        Message::LuReject { imsi, cause } => put_imsi_and(
-            buffer,
-            at,
-            LU_REJECT,
-            imsi,
-            Element::RejectCause,
-            cause.octet(),
-        ),
-        Message::Reset { entity } => put_entity(buffer, at, RESET, entity.octet()),
-        Message::ResetAcknowledge { entity } => put_entity(
-            buffer,
-            at,
-            RESET_ACKNOWLEDGE,
-            entity.octet(),
-        ),
-        Message::GprsDetachIndication { imsi, detach } => {
+        Message::LuReject { imsi, cause } => {
+            put_imsi_and(buffer, at, head, imsi, Element::RejectCause, cause.octet())
+        }
+        Message::Reset { entity } | Message::ResetAcknowledge { entity } => {
+            put_entity(buffer, at, head, entity.octet())
+        }
+        Message::GprsDetachIndication { imsi, detach }
+        | Message::GprsDetachAcknowledge { imsi, detach } => {
             put_imsi_and(
                 buffer,
                 at,
-                GPRS_DETACH_INDICATION,
+                head,
                 imsi,
                 Element::GprsDetachType,
                 detach.octet(),
             )
         }
-        Message::GprsDetachAcknowledge { imsi, detach } => {
+        Message::ImsiDetachIndication { imsi, detach }
+        | Message::ImsiDetachAcknowledge { imsi, detach } => {
             put_imsi_and(
                 buffer,
                 at,
-                GPRS_DETACH_ACKNOWLEDGE,
-                imsi,
-                Element::GprsDetachType,
-                detach.octet(),
-            )
-        }
-        Message::ImsiDetachIndication { imsi, detach } => {
-            put_imsi_and(
-                buffer,
-                at,
-                IMSI_DETACH_INDICATION,
-                imsi,
-                Element::ImsiDetachType,
-                detach.octet(),
-            )
-        }
-        Message::ImsiDetachAcknowledge { imsi, detach } => {
-            put_imsi_and(
-                buffer,
-                at,
-                IMSI_DETACH_ACKNOWLEDGE,
+                head,
                 imsi,
                 Element::ImsiDetachType,
                 detach.octet(),
@@ -158,16 +108,10 @@ fn write_at(message: Message, buffer: &mut [u8], at: usize) -> Result<usize, Fau
     ensures octets { λ _. ⌜ now (buffer .exit) ≡ leftAt at message (now (buffer .entry)) ⌝ }
 {
     if !message.is_lawful() {
-        return Err(Fault {
-            kind: FaultKind::Contents,
-            place: 0,
-        });
+        return refused(FaultKind::Contents, 0);
     }
     if buffer.len() < BUFFER_SIZE {
-        return Err(Fault {
-            kind: FaultKind::Buffer,
-            place: 0,
-        });
+        return refused(FaultKind::Buffer, 0);
     }
     Ok(put_message(buffer, at, message))
 }
