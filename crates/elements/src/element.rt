@@ -49,15 +49,13 @@ impl Element {
         }
     }
 
-    // The most content octets.
+    // The most content octets. Only an IMSI varies in length.
     pub fn most(self) -> usize
         ensures { λ r. ⌜ r ≡ mostOf self ⌝ }
     {
         match self {
             Element::Imsi => 8,
-            Element::Tmsi => 4,
-            Element::OldArea | Element::NewArea => 5,
-            _ => 1,
+            fixed => fixed.least(),
         }
     }
 }

@@ -1,6 +1,7 @@
 // Frames to octets.
 ghost use Prim.Native.Nat.{_≤_};
 ghost use lib.ListN.{length, drop};
+ghost use mathlib.Core.Bool.{true};
 ghost use mathlib.Core.List.{_++_};
 ghost use mathlib.Core.Path.{_≡_};
 ghost use Rattle.frames.specs.Format.{lawfulNodes, headerOctets};
@@ -47,6 +48,23 @@ fn put_front(buffer: &mut [u8], octets: [u8; 10])
     buffer[0..10].copy_from_slice(&octets);
 }
 
+// Writes a frame whose nodes and stamp are lawful.
+fn write_whole(frame: Frame, buffer: &mut [u8]) -> Result<usize, Fault>
+    requires nodes { ⌜ lawfulNodes (frame .source) (frame .destination) ≡ true ⌝ }
+    requires stamp { ⌜ (frame .stamp ≡ 0 → ⊥) ⌝ }
+    ensures value { λ r. ⌜ r ≡ frameWritten frame (now (buffer .entry)) ⌝ }
+    ensures octets { λ _. ⌜ now (buffer .exit) ≡ frameLeft frame (now (buffer .entry)) ⌝ }
+    ensures back { λ r. ⌜ ReadBack frame (now (buffer .exit)) r ⌝ }
+{
+    match write_message_in_frame(frame.message, buffer) {
+        Ok(end) => {
+            put_front(buffer, header_octets(frame));
+            Ok(end)
+        }
+        Err(fault) => Err(fault),
+    }
+}
+
 // Writes the frame at the front of the buffer, and answers how many octets it has.
 pub fn write_frame(frame: Frame, buffer: &mut [u8]) -> Result<usize, Fault>
     ensures value { λ r. ⌜ r ≡ frameWritten frame (now (buffer .entry)) ⌝ }
@@ -59,11 +77,5 @@ pub fn write_frame(frame: Frame, buffer: &mut [u8]) -> Result<usize, Fault>
     if frame.stamp == 0 {
         return refused(FaultKind::Stamp, 0);
     }
-    match write_message_in_frame(frame.message, buffer) {
-        Ok(end) => {
-            put_front(buffer, header_octets(frame));
-            Ok(end)
-        }
-        Err(fault) => Err(fault),
-    }
+    write_whole(frame, buffer)
 }

@@ -16,7 +16,7 @@ use Rattle.imsi.specs.declared.Imsi.{Imsi}
 use Rattle.imsi.specs.declared.writing.ImsiOctets.{ImsiOctets}
 use Rattle.imsi.specs.Halves.{halves, paired}
 use Rattle.imsi.specs.Spelling.{valued, digits, counted, after, inHalves, imsiIn, spelt, imsiOctets, lawfulImsi, Spells, ReadsExactly}
-use Rattle.imsi.specs.Written.{written, octetCount, ReadBack}
+use Rattle.imsi.specs.Written.{writtenOf, octetCount, ReadBack}
 use Rattle.imsi.proofs.Nibbles.{length-halves, length-paired, halves-paired, paired-halves}
 use Rattle.imsi.proofs.Values.{valued-digits, digits-valued}
 use Rattle.imsi.proofs.Spelt.{small-spelt, length-spelt, length-digits, length-octets}
@@ -175,7 +175,7 @@ pub record Shown (i : Imsi) (w : ImsiOctets) : Type 0 where
   pub octets : take (w .count) (w .octets) ≡ imsiOctets (i .digits) (i .value)
 
 -- what the writer answers are the octets that spell the IMSI
-pub shown : (i : Imsi) (w : ImsiOctets) → Some w ≡ written i → Shown i w
+pub shown : (i : Imsi) (w : ImsiOctets) → Some w ≡ writtenOf i → Shown i w
 shown i w e =
     ⊎-elim
     (λ law.
@@ -187,5 +187,5 @@ shown i w e =
     (cases-bool (lawfulImsi (i .digits) (i .value)))
 
 -- and they are read back as what it was given
-pub read-back : (i : Imsi) (r : Option ImsiOctets) → r ≡ written i → ReadBack i r
+pub read-back : (i : Imsi) (r : Option ImsiOctets) → r ≡ writtenOf i → ReadBack i r
 read-back i r e w h = let s = shown i w (sym h ∙ e) in ap imsiIn (s .octets) ∙ read-written (i .digits) (i .value) (s .lawful)

@@ -14,11 +14,12 @@ use Rattle.imsi.specs.Spelling.{lawfulImsi, imsiOctets, imsiIn}
 abbrev pub octetCount : ℕ → ℕ
 octetCount k = k / 2 + 1
 
-abbrev pub written : Imsi → Option ImsiOctets
-written i =
-    cond (lawfulImsi (i .digits) (i .value))
-    (Some (record { octets = imsiOctets (i .digits) (i .value) ++ replicate (8 - octetCount (i .digits)) 255; count = octetCount (i .digits) }))
-    None
+-- the octets of a lawful IMSI, and FF in each place after them
+abbrev pub spellingOf : Imsi → ImsiOctets
+spellingOf i = record { octets = imsiOctets (i .digits) (i .value) ++ replicate (8 - octetCount (i .digits)) 255; count = octetCount (i .digits) }
+
+abbrev pub writtenOf : Imsi → Option ImsiOctets
+writtenOf i = cond (lawfulImsi (i .digits) (i .value)) (Some (spellingOf i)) None
 
 -- reading the octets that are written gives back the IMSI
 abbrev pub ReadBack : Imsi → Option ImsiOctets → Type 0

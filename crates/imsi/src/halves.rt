@@ -5,6 +5,9 @@ ghost use mathlib.Core.Path.{_≡_};
 ghost use Rattle.imsi.specs.Halves.{halves, paired, Small};
 ghost use Rattle.imsi.specs.Spelling.{valued, filled};
 
+// A half octet above this is no digit.
+const LAST_DIGIT: u8 = 9;
+
 // Half octet `k` of `octets`.
 pub(crate) fn half(octets: &[u8], k: usize) -> u8
     requires { ⌜ k < 2 * length (now octets) ⌝ }
@@ -23,7 +26,7 @@ pub(crate) fn value_in(octets: &[u8], count: usize) -> Option<u64>
     let mut value: u64 = 0;
     for j in 0..count {
         let digit = half(octets, j + 1);
-        if digit > 9 {
+        if digit > LAST_DIGIT {
             return None;
         }
         value = value * 10 + digit as u64;

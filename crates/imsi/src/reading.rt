@@ -28,10 +28,9 @@ fn counted_in(octets: &[u8], count: usize) -> Option<(u8, u64)>
     }
 }
 
-// The digit count and the value that these octets spell, or nothing where they spell no IMSI.
-pub fn digits_in(octets: &[u8]) -> Option<(u8, u64)>
-    ensures value { λ r. ⌜ r ≡ imsiIn (now (octets .entry)) ⌝ }
-    ensures exactly { λ r. ⌜ ReadsExactly (now (octets .entry)) r ⌝ }
+// The same for any octets, by the marker, the count of octets and the filler.
+fn digits_by_marker(octets: &[u8]) -> Option<(u8, u64)>
+    ensures { λ r. ⌜ r ≡ imsiIn (now (octets .entry)) ⌝ }
 {
     let size = octets.len();
     if size < 1 || size > LONGEST {
@@ -45,4 +44,20 @@ pub fn digits_in(octets: &[u8]) -> Option<(u8, u64)>
     } else {
         None
     }
+}
+
+// Does nothing: what is so read is exactly what the octets spell.
+fn spelt_exactly(octets: &[u8], read: Option<(u8, u64)>)
+    requires { ⌜ read ≡ imsiIn (now octets) ⌝ }
+    ensures { λ _. ⌜ ReadsExactly (now (octets .entry)) read ⌝ }
+{}
+
+// The digit count and the value that these octets spell, or nothing where they spell no IMSI.
+pub fn digits_in(octets: &[u8]) -> Option<(u8, u64)>
+    ensures value { λ r. ⌜ r ≡ imsiIn (now (octets .entry)) ⌝ }
+    ensures exactly { λ r. ⌜ ReadsExactly (now (octets .entry)) r ⌝ }
+{
+    let read = digits_by_marker(octets);
+    spelt_exactly(octets, read);
+    read
 }

@@ -1,6 +1,8 @@
 // Digits to octets.
+ghost use mathlib.Core.Bool.{true};
 ghost use mathlib.Core.Path.{_≡_};
-ghost use Rattle.imsi.specs.Written.{written, ReadBack};
+ghost use Rattle.imsi.specs.Spelling.{lawfulImsi};
+ghost use Rattle.imsi.specs.Written.{spellingOf, writtenOf, ReadBack};
 use crate::Imsi;
 use crate::halves::halves_of;
 use crate::halves::pair_up;
@@ -12,15 +14,33 @@ pub struct ImsiOctets {
     pub count: usize,
 }
 
+// The octets that spell a lawful IMSI.
+fn spelling(imsi: Imsi) -> ImsiOctets
+    requires { ⌜ lawfulImsi (imsi .digits) (imsi .value) ≡ true ⌝ }
+    ensures { λ r. ⌜ r ≡ spellingOf imsi ⌝ }
+{
+    ImsiOctets {
+        octets: pair_up(halves_of(imsi.digits, imsi.value)),
+        count: imsi.digits as usize / 2 + 1,
+    }
+}
+
+// Does nothing: what is so written is read back.
+fn read_back(imsi: Imsi, written: Option<ImsiOctets>)
+    requires { ⌜ written ≡ writtenOf imsi ⌝ }
+    ensures { λ _. ⌜ ReadBack imsi written ⌝ }
+{}
+
 // The octets that spell `imsi`, or nothing where it is unlawful.
 pub fn octets_of(imsi: Imsi) -> Option<ImsiOctets>
-    ensures value { λ r. ⌜ r ≡ written imsi ⌝ }
+    ensures value { λ r. ⌜ r ≡ writtenOf imsi ⌝ }
     ensures back { λ r. ⌜ ReadBack imsi r ⌝ }
 {
-    if !imsi.is_lawful() {
-        return None;
-    }
-    let octets = pair_up(halves_of(imsi.digits, imsi.value));
-    let count = imsi.digits as usize / 2 + 1;
-    Some(ImsiOctets { octets, count })
+    let written = if imsi.is_lawful() {
+        Some(spelling(imsi))
+    } else {
+        None
+    };
+    read_back(imsi, written);
+    written
 }

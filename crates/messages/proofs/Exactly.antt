@@ -2,15 +2,15 @@
 use mathlib.Core.Path.{_≡_, refl, sym, ap, _∙_}
 use mathlib.Core.Bool.{true, cond, _&&_}
 use mathlib.Core.Logic.{⊎-elim}
-use mathlib.Core.List.{List, _++_}
+use mathlib.Core.List.{List, _++_, append-assoc}
 use Prim.Native.Nat.{ℕ, _+_, _<_, _≤_}
 use native.Mathlib.Omega.{arith}
 use lib.Dec.{leb}
 use lib.ListN.{length, getD, take, drop}
 use Rattle.std.specs.declared.result.Result.{Result}
 use Rattle.std.specs.declared.result.Result.the-variants.{Ok, Err}
-use Rattle.std.proofs.shelf.Lists.{take-at}
-use Rattle.std.proofs.shelf.Tests.{cond-true, cond-false, and-from, cases-bool}
+use Rattle.std.proofs.shelf.Lists.{take-at, drop-at, length-append, length-take-le}
+use Rattle.std.proofs.shelf.Tests.{cond-true, cond-false, and-from, leb-true, cases-bool}
 use Rattle.elements.specs.declared.fault.Fault.{Fault}
 use Rattle.elements.proofs.Chains.{same-ok, fault-ok}
 use Rattle.messages.specs.declared.message.Message.{Message}
@@ -46,11 +46,15 @@ written at m b n e =
     (λ f. fault-ok _ n (sym (cond-false _ _ _ f) ∙ e))
     (cases-bool (lawfulMessage m))
 
-pub read-back : (m : Message) (b after : List ℕ) (r : Result ℕ Fault) → r ≡ writtenAt 0 m b → after ≡ leftAt 0 m b → ReadBack m after r
-read-back m b after r e h n k =
-    let w = written 0 m b n (sym e ∙ k) in
+pub read-back : (at : ℕ) (m : Message) (b after : List ℕ) (r : Result ℕ Fault) → at ≤ 10 → r ≡ writtenAt at m b → after ≡ leftAt at m b → ReadBack at m after r
+read-back at m b after r low e h n k =
+    let w = written at m b n (sym e ∙ k) in
     let size = w .size in
     let few = short m (w .lawful) in
-    let long : length (octetsOf m) ≡ n = omega arith in
-    let front : take n after ≡ octetsOf m = ap (take n) (h ∙ w .left) ∙ take-at (octetsOf m) (drop (0 + length (octetsOf m)) b) n long in
-    (ap (λ s. messageAt s 0) front ∙ there (octetsOf m) 0 m (w .lawful) refl, omega arith)
+    let room = leb-true bufferSize (length b) (w .room) in
+    let xs = octetsOf m in
+    let long : length (take at b) ≡ at = length-take-le at b (omega arith) in
+    let both : length (take at b ++ xs) ≡ n = length-append (take at b) xs ∙ omega arith in
+    let front : take n after ≡ take at b ++ xs =
+    ap (take n) (h ∙ w .left ∙ sym (append-assoc (take at b) xs (drop (at + length xs) b))) ∙ take-at (take at b ++ xs) (drop (at + length xs) b) n both in
+    (there (take n after) at m (w .lawful) (ap (drop at) front ∙ drop-at (take at b) xs at long), omega arith)

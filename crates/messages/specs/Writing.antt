@@ -36,6 +36,6 @@ writtenAt at m b = cond (lawfulMessage m) (cond (leb bufferSize (length b)) (Ok 
 abbrev pub leftAt : ℕ → Message → List ℕ → List ℕ
 leftAt at m b = cond (lawfulMessage m && leb bufferSize (length b)) (overlaid at (octetsOf m) b) b
 
--- reading what was written gives back the message
-abbrev pub ReadBack : Message → List ℕ → Result ℕ Fault → Type 0
-ReadBack m after r = (n : ℕ) → r ≡ Ok n → (messageAt (take n after) 0 ≡ Ok m) × (n ≤ 31)
+-- reading what was written from a place on gives back the message, which has 31 octets at most
+abbrev pub ReadBack : ℕ → Message → List ℕ → Result ℕ Fault → Type 0
+ReadBack at m after r = (n : ℕ) → r ≡ Ok n → (messageAt (take n after) at ≡ Ok m) × (n ≤ at + 31)

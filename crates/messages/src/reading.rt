@@ -223,12 +223,23 @@ fn body(octets: &[u8], at: usize, type_octet: u8) -> Result<Message, Fault>
     }
 }
 
+// Does nothing: what is so read is exactly what the octets from `at` on spell.
+fn spelt_exactly(octets: &[u8], at: usize, read: Result<Message, Fault>)
+    requires { ⌜ read ≡ messageAt (now octets) at ⌝ }
+    ensures { λ _. ⌜ ReadsExactly (drop at (now (octets .entry))) read ⌝ }
+{
+    // that octets are below 256 is known of a slice that is looked at
+    let _empty = octets.is_empty();
+}
+
 // The message that these octets are, or the first fault.
 pub fn read_message(octets: &[u8]) -> Result<Message, Fault>
     ensures value { λ r. ⌜ r ≡ messageAt (now (octets .entry)) 0 ⌝ }
     ensures exactly { λ r. ⌜ ReadsExactly (now (octets .entry)) r ⌝ }
 {
-    message(octets, 0)
+    let read = message(octets, 0);
+    spelt_exactly(octets, 0, read);
+    read
 }
 
 // The message in a frame's octets, from behind the frame's own ten octets to the end.
@@ -236,5 +247,7 @@ pub fn read_message_in_frame(octets: &[u8]) -> Result<Message, Fault>
     ensures value { λ r. ⌜ r ≡ messageAt (now (octets .entry)) 10 ⌝ }
     ensures exactly { λ r. ⌜ ReadsExactly (drop 10 (now (octets .entry))) r ⌝ }
 {
-    message(octets, IN_FRAME)
+    let read = message(octets, IN_FRAME);
+    spelt_exactly(octets, IN_FRAME, read);
+    read
 }

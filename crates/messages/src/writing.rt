@@ -102,7 +102,7 @@ fn put_message(buffer: &mut [u8], at: usize, message: Message) -> usize
 }
 
 // Writes the message from `at` on, or refuses and leaves the buffer as it was.
-fn write_at(message: Message, buffer: &mut [u8], at: usize) -> Result<usize, Fault>
+fn write_checked(message: Message, buffer: &mut [u8], at: usize) -> Result<usize, Fault>
     requires { ⌜ at ≤ 10 ⌝ }
     ensures value { λ r. ⌜ r ≡ writtenAt at message (now (buffer .entry)) ⌝ }
     ensures octets { λ _. ⌜ now (buffer .exit) ≡ leftAt at message (now (buffer .entry)) ⌝ }
@@ -116,11 +116,21 @@ fn write_at(message: Message, buffer: &mut [u8], at: usize) -> Result<usize, Fau
     Ok(put_message(buffer, at, message))
 }
 
+// The same, with what follows: the message is read back.
+fn write_at(message: Message, buffer: &mut [u8], at: usize) -> Result<usize, Fault>
+    requires { ⌜ at ≤ 10 ⌝ }
+    ensures value { λ r. ⌜ r ≡ writtenAt at message (now (buffer .entry)) ⌝ }
+    ensures octets { λ _. ⌜ now (buffer .exit) ≡ leftAt at message (now (buffer .entry)) ⌝ }
+    ensures back { λ r. ⌜ ReadBack at message (now (buffer .exit)) r ⌝ }
+{
+    write_checked(message, buffer, at)
+}
+
 // Writes the message at the front of the buffer, and answers how many octets it has.
 pub fn write_message(message: Message, buffer: &mut [u8]) -> Result<usize, Fault>
     ensures value { λ r. ⌜ r ≡ writtenAt 0 message (now (buffer .entry)) ⌝ }
     ensures octets { λ _. ⌜ now (buffer .exit) ≡ leftAt 0 message (now (buffer .entry)) ⌝ }
-    ensures back { λ r. ⌜ ReadBack message (now (buffer .exit)) r ⌝ }
+    ensures back { λ r. ⌜ ReadBack 0 message (now (buffer .exit)) r ⌝ }
 {
     write_at(message, buffer, 0)
 }
@@ -129,6 +139,7 @@ pub fn write_message(message: Message, buffer: &mut [u8]) -> Result<usize, Fault
 pub fn write_message_in_frame(message: Message, buffer: &mut [u8]) -> Result<usize, Fault>
     ensures value { λ r. ⌜ r ≡ writtenAt 10 message (now (buffer .entry)) ⌝ }
     ensures octets { λ _. ⌜ now (buffer .exit) ≡ leftAt 10 message (now (buffer .entry)) ⌝ }
+    ensures back { λ r. ⌜ ReadBack 10 message (now (buffer .exit)) r ⌝ }
 {
     write_at(message, buffer, IN_FRAME)
 }

@@ -12,8 +12,8 @@ use Rattle.imsi.proofs.Nibbles.{length-halves}
 use Rattle.imsi.proofs.Values.{step, room, grown}
 use Rattle.imsi.proofs.halves.value_in.Needs as need
 
-pub returns-then-digit-gt9 : need.returns-then-digit-gt9
-returns-then-digit-gt9 c =
+pub returns-then-digit-gt-LAST-DIGIT : need.returns-then-digit-gt-LAST-DIGIT
+returns-then-digit-gt-LAST-DIGIT c =
     let hs = halves (c .args .octets .now) in
     let long = length-halves (c .args .octets .now) in
     let told = c .half-digit .ensures in
