@@ -1,0 +1,5 @@
+pub mod Octets
+pub mod Datagrams
+pub mod Waiting
+pub mod Order
+pub mod Chains

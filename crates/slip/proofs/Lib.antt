@@ -1,0 +1,4 @@
+pub mod Lasts
+pub mod Laws
+pub mod Steps
+pub mod Scripts
