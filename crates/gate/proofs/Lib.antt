@@ -1,0 +1,3 @@
+pub mod Spots
+pub mod Notes
+pub mod Moving
