@@ -47,8 +47,7 @@ impl Datagram {
     pub fn destination(&self) -> NodeNumber
         ensures { λ r. ⌜ r ≡ destinationOf (octetsIn (now (self .entry))) ⌝ }
     {
-        NodeNumber {
-            number: self.octets[1],
-        }
+        let octets = self.as_slice();
+        NodeNumber { number: octets[1] }
     }
 }

@@ -1,4 +1,4 @@
-// The worked examples of the format, each proved of the definitions that the readers and writers are held to.
+// The worked examples, each proved of the definitions that the code is held to.
 ghost use lib.ListN.{length};
 ghost use mathlib.Core.Path.{_≡_};
 ghost use Rattle.examples.specs.Rows.{rows, Stand};
@@ -8,5 +8,5 @@ pub fn examples_stand() -> usize
     ensures count { λ r. ⌜ r ≡ length rows ⌝ }
     ensures stand { λ _. ⌜ Stand rows ⌝ }
 {
-    5
+    6
 }
