@@ -38,7 +38,8 @@ impl Datagram {
     }
 
     pub fn as_slice(&self) -> &[u8]
-        ensures { λ r. ⌜ now r ≡ octetsIn (now (self .entry)) ⌝ }
+        ensures value { λ r. ⌜ now r ≡ octetsIn (now (self .entry)) ⌝ }
+        ensures long { λ r. ⌜ 11 ≤ length (now r) ⌝ }
     {
         &self.octets[0..self.len]
     }
