@@ -2,6 +2,7 @@
 ghost use mathlib.Core.List.{[]};
 ghost use mathlib.Core.Path.{_≡_};
 ghost use Rattle.carrier.specs.Datagrams.{octetsIn, carried};
+ghost use Rattle.carrier.specs.Order.{Empty};
 ghost use Rattle.gate.specs.Passing.{Gated, Passed};
 ghost use Rattle.gate.specs.Rows.{rows-of, latest-of};
 use crate::pairs::Pairs;
@@ -18,10 +19,11 @@ pub struct Gate<C> {
     pub pairs: Pairs,
 }
 
-impl<C> Gate<C> {
+impl<C: Carrier> Gate<C> {
     pub fn new(below: C) -> Gate<C>
         ensures below { λ r. ⌜ r .below ≡ below ⌝ }
         ensures pairs { λ r. ⌜ rows-of (r .pairs) ≡ [] ⌝ }
+        ensures empty { λ r. ⌜ (C·Carrier .waiting below ≡ [] → Empty (C·Carrier .waiting (r .below)) (latest-of (rows-of (r .pairs)))) ⌝ }
     {
         Gate {
             below,
