@@ -10,19 +10,19 @@ use crate::carrier::Carrier;
 use crate::datagram::Datagram;
 use elements::node::NodeNumber;
 
-// A frame given has a higher stamp than all given before from its source to its node. The latest stamp given,
+// A frame given has a higher stamp than all given before from its source to its node. The stamp last given,
 // 0 when new, is moved only by a frame given.
 pub trait InOrder: Carrier {
-    ghost latest: { Self → Stamps };
+    ghost lastGiven: { Self → Stamps };
 
-    law still: { (s : Self) (f : List ℕ) (t : Self) → Self·Carrier .puts s f t → Still (latest s) (latest t) };
+    law still: { (s : Self) (f : List ℕ) (t : Self) → Self·Carrier .puts s f t → Still (lastGiven s) (lastGiven t) };
 
-    law moves: { (s : Self) (n : Node) (r : Option (List ℕ)) (t : Self) → Self·Carrier .takes s n r t → Moves (latest s) r (latest t) };
+    law moves: { (s : Self) (n : Node) (r : Option (List ℕ)) (t : Self) → Self·Carrier .takes s n r t → Moves (lastGiven s) r (lastGiven t) };
 
     fn put(&mut self, octets: &[u8])
         ensures puts { λ _. ⌜ Self·Carrier .puts (now (self .entry)) (now (octets .entry)) (now (self .exit)) ⌝ }
         ensures waiting { λ _. ⌜ Adds (Self·Carrier .waiting (now (self .entry))) (now (octets .entry)) (Self·Carrier .waiting (now (self .exit))) ⌝ }
-        ensures latest { λ _. ⌜ Still (latest (now (self .entry))) (latest (now (self .exit))) ⌝ }
+        ensures stamps { λ _. ⌜ Still (lastGiven (now (self .entry))) (lastGiven (now (self .exit))) ⌝ }
     {
         Carrier::put(self, octets)
     }
@@ -31,7 +31,7 @@ pub trait InOrder: Carrier {
         ensures takes { λ r. ⌜ Self·Carrier .takes (now (self .entry)) node (carried r) (now (self .exit)) ⌝ }
         ensures given { λ r. ⌜ Gives (Self·Carrier .waiting (now (self .entry))) node (carried r) ⌝ }
         ensures waiting { λ _. ⌜ Leaves (Self·Carrier .waiting (now (self .entry))) (Self·Carrier .waiting (now (self .exit))) ⌝ }
-        ensures latest { λ r. ⌜ Moves (latest (now (self .entry))) (carried r) (latest (now (self .exit))) ⌝ }
+        ensures stamps { λ r. ⌜ Moves (lastGiven (now (self .entry))) (carried r) (lastGiven (now (self .exit))) ⌝ }
     {
         Carrier::take(self, node)
     }

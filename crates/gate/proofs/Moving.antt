@@ -23,7 +23,7 @@ use Rattle.carrier.specs.Octets.{sourceOf, destinationOf, stampOf}
 use Rattle.carrier.specs.Order.{Moves}
 use Rattle.gate.specs.declared.pairs.Pair.{Pair}
 use Rattle.gate.specs.Passing.{Heard, Passed}
-use Rattle.gate.specs.Rows.{isOf, row, latest-of, fresh, noted}
+use Rattle.gate.specs.Rows.{isOf, row, lastGivenIn, fresh, noted}
 
 same-is : (a b : NodeNumber) → sameNode a b ≡ true → a ≡ b
 same-is a b t = let e = eqb-true (a .number) (b .number) t in λ i. record { number = e i }
@@ -32,11 +32,11 @@ is-own : (a b : NodeNumber) (k : ℕ) → isOf a b (row a b k) ≡ true
 is-own a b k = and-from _ _ (eq-eqb (a .number) _ refl) (eq-eqb (b .number) _ refl)
 
 -- the pair's own latest stamp is the new one
-own-by : (t : Bool) (a b : NodeNumber) (k : ℕ) (p : Pair) (ps : List Pair) → isOf a b p ≡ t → latest-of (noted ps a b k) a b ≡ k → latest-of (cond t (row a b k ∷ ps) (p ∷ noted ps a b k)) a b ≡ k
-own-by true a b k p ps t rest = ap (λ c. cond c k (latest-of ps a b)) (is-own a b k)
-own-by false a b k p ps t rest = ap (λ c. cond c (p .stamp) (latest-of (noted ps a b k) a b)) t ∙ rest
+own-by : (t : Bool) (a b : NodeNumber) (k : ℕ) (p : Pair) (ps : List Pair) → isOf a b p ≡ t → lastGivenIn (noted ps a b k) a b ≡ k → lastGivenIn (cond t (row a b k ∷ ps) (p ∷ noted ps a b k)) a b ≡ k
+own-by true a b k p ps t rest = ap (λ c. cond c k (lastGivenIn ps a b)) (is-own a b k)
+own-by false a b k p ps t rest = ap (λ c. cond c (p .stamp) (lastGivenIn (noted ps a b k) a b)) t ∙ rest
 
-own : (a b : NodeNumber) (k : ℕ) (ps : List Pair) → latest-of (noted ps a b k) a b ≡ k
+own : (a b : NodeNumber) (k : ℕ) (ps : List Pair) → lastGivenIn (noted ps a b k) a b ≡ k
 own a b k [] = ap (λ c. cond c k 0) (is-own a b k)
 own a b k (p ∷ ps) = own-by (isOf a b p) a b k p ps refl (own a b k ps)
 
@@ -51,11 +51,11 @@ not-both a b u v p t ne =
     (λ f. f)
     (cases-bool (isOf u v p))
 
-other-by : (t : Bool) (a b : NodeNumber) (k : ℕ) (u v : NodeNumber) (p : Pair) (ps : List Pair) → isOf a b p ≡ t → (u ≡ a → v ≡ b → ⊥) → latest-of (noted ps a b k) u v ≡ latest-of ps u v → latest-of (cond t (row a b k ∷ ps) (p ∷ noted ps a b k)) u v ≡ latest-of (p ∷ ps) u v
-other-by true a b k u v p ps t ne rest = ap (λ c. cond c k (latest-of ps u v)) (not-both a b u v (row a b k) (is-own a b k) ne) ∙ sym (ap (λ c. cond c (p .stamp) (latest-of ps u v)) (not-both a b u v p t ne))
+other-by : (t : Bool) (a b : NodeNumber) (k : ℕ) (u v : NodeNumber) (p : Pair) (ps : List Pair) → isOf a b p ≡ t → (u ≡ a → v ≡ b → ⊥) → lastGivenIn (noted ps a b k) u v ≡ lastGivenIn ps u v → lastGivenIn (cond t (row a b k ∷ ps) (p ∷ noted ps a b k)) u v ≡ lastGivenIn (p ∷ ps) u v
+other-by true a b k u v p ps t ne rest = ap (λ c. cond c k (lastGivenIn ps u v)) (not-both a b u v (row a b k) (is-own a b k) ne) ∙ sym (ap (λ c. cond c (p .stamp) (lastGivenIn ps u v)) (not-both a b u v p t ne))
 other-by false a b k u v p ps t ne rest = ap (λ l. cond (isOf u v p) (p .stamp) l) rest
 
-other : (a b : NodeNumber) (k : ℕ) (u v : NodeNumber) (ps : List Pair) → (u ≡ a → v ≡ b → ⊥) → latest-of (noted ps a b k) u v ≡ latest-of ps u v
+other : (a b : NodeNumber) (k : ℕ) (u v : NodeNumber) (ps : List Pair) → (u ≡ a → v ≡ b → ⊥) → lastGivenIn (noted ps a b k) u v ≡ lastGivenIn ps u v
 other a b k u v [] ne = ap (λ c. cond c k 0) (not-both a b u v (row a b k) (is-own a b k) ne)
 other a b k u v (p ∷ ps) ne = other-by (isOf a b p) a b k u v p ps refl ne (other a b k u v ps ne)
 
@@ -77,17 +77,17 @@ front o f r =
       stamp = ap (λ x. x .stamp) (h .is) ∙ ap (λ (x : Frame). x .stamp) is;
     }
 
-still : (ps qs : List Pair) (r : Option (List ℕ)) → r ≡ None → qs ≡ ps → Moves (latest-of ps) r (latest-of qs)
-still ps qs r e q = subst (λ o. Moves (latest-of ps) o (latest-of qs)) (sym e) (λ a b. ap (λ z. latest-of z a b) q)
+still : (ps qs : List Pair) (r : Option (List ℕ)) → r ≡ None → qs ≡ ps → Moves (lastGivenIn ps) r (lastGivenIn qs)
+still ps qs r e q = subst (λ o. Moves (lastGivenIn ps) o (lastGivenIn qs)) (sym e) (λ a b. ap (λ z. lastGivenIn z a b) q)
 
-given-by : (t : Bool) (ps qs : List Pair) (o : List ℕ) (r : Option (List ℕ)) → fresh ps (sourceOf o) (destinationOf o) (stampOf o) ≡ t → r ≡ cond t (Some o) None → qs ≡ cond t (noted ps (sourceOf o) (destinationOf o) (stampOf o)) ps → Moves (latest-of ps) r (latest-of qs)
+given-by : (t : Bool) (ps qs : List Pair) (o : List ℕ) (r : Option (List ℕ)) → fresh ps (sourceOf o) (destinationOf o) (stampOf o) ≡ t → r ≡ cond t (Some o) None → qs ≡ cond t (noted ps (sourceOf o) (destinationOf o) (stampOf o)) ps → Moves (lastGivenIn ps) r (lastGivenIn qs)
 given-by true ps qs o r t e q =
     let l = and-parts _ _ t in
-    let m : Moves (latest-of ps) (Some o) (latest-of (noted ps (sourceOf o) (destinationOf o) (stampOf o))) = (ltb-true _ _ (l .0), own (sourceOf o) (destinationOf o) (stampOf o) ps, λ u v ne. other (sourceOf o) (destinationOf o) (stampOf o) u v ps ne) in
-    subst (λ x. Moves (latest-of ps) x (latest-of qs)) (sym e) (subst (λ z. Moves (latest-of ps) (Some o) (latest-of z)) (sym q) m)
+    let m : Moves (lastGivenIn ps) (Some o) (lastGivenIn (noted ps (sourceOf o) (destinationOf o) (stampOf o))) = (ltb-true _ _ (l .0), own (sourceOf o) (destinationOf o) (stampOf o) ps, λ u v ne. other (sourceOf o) (destinationOf o) (stampOf o) u v ps ne) in
+    subst (λ x. Moves (lastGivenIn ps) x (lastGivenIn qs)) (sym e) (subst (λ z. Moves (lastGivenIn ps) (Some o) (lastGivenIn z)) (sym q) m)
 given-by false ps qs o r t e q = still ps qs r e q
 
-heard : (ps qs : List Pair) (o : List ℕ) (x : Result Frame Fault) (r : Option (List ℕ)) → frameIn o ≡ x → Heard ps o x r qs → Moves (latest-of ps) r (latest-of qs)
+heard : (ps qs : List Pair) (o : List ℕ) (x : Result Frame Fault) (r : Option (List ℕ)) → frameIn o ≡ x → Heard ps o x r qs → Moves (lastGivenIn ps) r (lastGivenIn qs)
 heard ps qs o (Err d) r k h = still ps qs r (h .0) (h .1)
 heard ps qs o (Ok f) r k h =
     let w = front o f k in
@@ -95,7 +95,7 @@ heard ps qs o (Ok f) r k h =
     let z : P (sourceOf o) (destinationOf o) (stampOf o) = subst (λ a. P a (destinationOf o) (stampOf o)) (sym (w .source)) (subst (λ b. P (f .source) b (stampOf o)) (sym (w .destination)) (subst (λ n. P (f .source) (f .destination) n) (sym (w .stamp)) h)) in
     given-by (fresh ps (sourceOf o) (destinationOf o) (stampOf o)) ps qs o r refl (z .0) (z .1)
 
-pub moved : (ps qs : List Pair) (came r : Option (List ℕ)) → Passed ps came r qs → Moves (latest-of ps) r (latest-of qs)
+pub moved : (ps qs : List Pair) (came r : Option (List ℕ)) → Passed ps came r qs → Moves (lastGivenIn ps) r (lastGivenIn qs)
 moved ps qs None r h = still ps qs r (h .0) (h .1)
 moved ps qs (Some o) r h = heard ps qs o (frameIn o) r refl h
 

@@ -11,14 +11,14 @@ use Rattle.std.proofs.shelf.Lists.{take-more-set}
 use Rattle.std.proofs.shelf.Tests.{lt-ltb, le-ltb}
 use Rattle.elements.specs.declared.node.NodeNumber.{NodeNumber}
 use Rattle.gate.specs.declared.pairs.Pair.{Pair}
-use Rattle.gate.specs.Rows.{isOf, row, spot, latest-of, known, fresh, noted}
+use Rattle.gate.specs.Rows.{isOf, row, spot, lastGivenIn, known, fresh, noted}
 use Rattle.gate.proofs.Spots.{spot-more, found, missed}
 
 -- any row, where one is asked for past the end
 abbrev pub none : Pair
 none = row (record { number = 0 }) (record { number = 0 }) 0
 
-fresh-is : (ps : List Pair) (a b : NodeNumber) (k la : ℕ) (kn : Bool) → latest-of ps a b ≡ la → known ps a b ≡ kn → fresh ps a b k ≡ (ltb la k && cond kn true (ltb (length ps) 16))
+fresh-is : (ps : List Pair) (a b : NodeNumber) (k la : ℕ) (kn : Bool) → lastGivenIn ps a b ≡ la → known ps a b ≡ kn → fresh ps a b k ≡ (ltb la k && cond kn true (ltb (length ps) 16))
 fresh-is ps a b k la kn e f = ap (λ l. ltb l k && cond (known ps a b) true (ltb (length ps) 16)) e ∙ ap (λ t. ltb la k && cond t true (ltb (length ps) 16)) f
 
 module _ (rows : List Pair) (n : ℕ) (a b : NodeNumber) (k i : ℕ) (at : i ≡ spot a b (take n rows)) (le : n ≤ length rows) where
@@ -29,7 +29,7 @@ module _ (rows : List Pair) (n : ℕ) (a b : NodeNumber) (k i : ℕ) (at : i ≡
   long = length-take-le n rows le
 
   module _ (h : i < n) where
-    at-row : (latest-of ps a b ≡ getD rows i none .stamp) × (known ps a b ≡ true) × (noted ps a b k ≡ set ps i (row a b k))
+    at-row : (lastGivenIn ps a b ≡ getD rows i none .stamp) × (known ps a b ≡ true) × (noted ps a b k ≡ set ps i (row a b k))
     at-row =
         let r = found a b k none ps (subst (λ j. j < length ps) at (rw long h)) in
         (r .1 ∙ ap (λ j. getD ps j none .stamp) (sym at) ∙ ap (λ p. p .stamp) (getD-take n rows i none h), r .0, r .2 ∙ ap (λ j. set ps j (row a b k)) (sym at))
@@ -42,7 +42,7 @@ module _ (rows : List Pair) (n : ℕ) (a b : NodeNumber) (k i : ℕ) (at : i ≡
     stale l = sym (fresh-is ps a b k _ true (at-row .0) (at-row .1) ∙ ap (λ t. t && true) (le-ltb _ _ l))
 
   module _ (h : n ≤ i) where
-    no-row : (latest-of ps a b ≡ 0) × (known ps a b ≡ false) × (noted ps a b k ≡ ps ++ row a b k ∷ [])
+    no-row : (lastGivenIn ps a b ≡ 0) × (known ps a b ≡ false) × (noted ps a b k ≡ ps ++ row a b k ∷ [])
     no-row = let r = missed a b k ps (subst (λ j. length ps ≤ j) at (rw long h)) in (r .1, r .0, r .2)
 
     pub zero-stamp : k ≡ 0 → false ≡ fresh ps a b k

@@ -26,9 +26,9 @@ spot a b [] = 0
 spot a b (p ∷ ps) = cond (isOf a b p) 0 (1 + spot a b ps)
 
 -- the latest stamp from a to b, 0 when new
-abbrev pub latest-of : List Pair → NodeNumber → NodeNumber → ℕ
-latest-of [] a b = 0
-latest-of (p ∷ ps) a b = cond (isOf a b p) (p .stamp) (latest-of ps a b)
+abbrev pub lastGivenIn : List Pair → NodeNumber → NodeNumber → ℕ
+lastGivenIn [] a b = 0
+lastGivenIn (p ∷ ps) a b = cond (isOf a b p) (p .stamp) (lastGivenIn ps a b)
 
 abbrev pub known : List Pair → NodeNumber → NodeNumber → Bool
 known [] a b = false
@@ -36,7 +36,7 @@ known (p ∷ ps) a b = cond (isOf a b p) true (known ps a b)
 
 -- above the latest stamp, and of a pair that has a row or can get one
 abbrev pub fresh : List Pair → NodeNumber → NodeNumber → ℕ → Bool
-fresh ps a b k = ltb (latest-of ps a b) k && cond (known ps a b) true (ltb (length ps) 16)
+fresh ps a b k = ltb (lastGivenIn ps a b) k && cond (known ps a b) true (ltb (length ps) 16)
 
 -- the rows after this stamp was given
 abbrev pub noted : List Pair → NodeNumber → NodeNumber → ℕ → List Pair

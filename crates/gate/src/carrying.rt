@@ -4,7 +4,7 @@ ghost use mathlib.Core.Path.{_≡_};
 ghost use Rattle.carrier.specs.Datagrams.{octetsIn, carried};
 ghost use Rattle.carrier.specs.Order.{Empty};
 ghost use Rattle.gate.specs.Passing.{Gated, Passed};
-ghost use Rattle.gate.specs.Rows.{rows-of, latest-of};
+ghost use Rattle.gate.specs.Rows.{rows-of, lastGivenIn};
 use crate::pairs::Pairs;
 use carrier::carrier::Carrier;
 use carrier::datagram::Datagram;
@@ -23,7 +23,7 @@ impl<C: Carrier> Gate<C> {
     pub fn new(below: C) -> Gate<C>
         ensures below { λ r. ⌜ r .below ≡ below ⌝ }
         ensures pairs { λ r. ⌜ rows-of (r .pairs) ≡ [] ⌝ }
-        ensures empty { λ r. ⌜ (C·Carrier .waiting below ≡ [] → Empty (C·Carrier .waiting (r .below)) (latest-of (rows-of (r .pairs)))) ⌝ }
+        ensures empty { λ r. ⌜ (C·Carrier .waiting below ≡ [] → Empty (C·Carrier .waiting (r .below)) (lastGivenIn (rows-of (r .pairs)))) ⌝ }
     {
         Gate {
             below,
@@ -32,7 +32,7 @@ impl<C: Carrier> Gate<C> {
     }
 }
 
-// What the gate lets through of what came from below: a frame that reads, above its pair's latest stamp, of a
+// What the gate lets through of what came from below: a frame that reads, above the stamp last given of its pair, of a
 // pair that is among the first 16.
 fn pass(pairs: &mut Pairs, came: Option<Datagram>) -> Option<Datagram>
     ensures { λ r. ⌜ Passed (rows-of (now (pairs .entry))) (carried came) (carried r) (rows-of (now (pairs .exit))) ⌝ }
@@ -68,5 +68,5 @@ pub impl<C: Carrier> Carrier for Gate<C> as GateCarrier {
 }
 
 pub impl<C: Carrier> InOrder for Gate<C> as GateInOrder {
-    ghost latest = { λ g. latest-of (rows-of (g .pairs)) };
+    ghost lastGiven = { λ g. lastGivenIn (rows-of (g .pairs)) };
 }

@@ -50,7 +50,7 @@ impl Pairs {
         }
     }
 
-    // Notes a stamp that is above its pair's latest, if the pair has a row or can get one.
+    // Notes a stamp that is above the last given of its pair, if the pair has a row or can get one.
     pub fn note(&mut self, source: NodeNumber, destination: NodeNumber, stamp: u32) -> bool
         ensures answer { λ r. ⌜ r ≡ fresh (rows-of (now (self .entry))) source destination stamp ⌝ }
         ensures rows { λ r. ⌜ rows-of (now (self .exit)) ≡ cond r (noted (rows-of (now (self .entry))) source destination stamp) (rows-of (now (self .entry))) ⌝ }

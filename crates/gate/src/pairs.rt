@@ -1,4 +1,4 @@
-// What the gate remembers: the latest stamp given of each pair of nodes.
+// What the gate remembers: the stamp last given of each pair of nodes.
 ghost use Prim.Native.Nat.{_≤_};
 use elements::node::NodeNumber;
 

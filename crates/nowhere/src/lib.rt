@@ -29,5 +29,5 @@ pub impl Carrier for Nowhere as NowhereCarrier {
 }
 
 pub impl InOrder for Nowhere as NowhereInOrder {
-    ghost latest = { λ _ _ _. 0 };
+    ghost lastGiven = { λ _ _ _. 0 };
 }
