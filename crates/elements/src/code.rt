@@ -1,8 +1,10 @@
 // Contents of one octet: which octet stands for which case.
 ghost use Prim.Native.Nat.{ℕ};
+ghost use lib.Dec.{eqb};
+ghost use mathlib.Core.Bool.{cond};
 ghost use mathlib.Core.Path.{_≡_};
 ghost use Rattle.std.specs.declared.option.Option.{Option};
-ghost use Rattle.std.specs.declared.option.Option.the-variants.{Some};
+ghost use Rattle.std.specs.declared.option.Option.the-variants.{None, Some};
 ghost use Rattle.elements.specs.Codes.{causeOctet, causeIn, updateOctet, updateIn, classOctet, classIn, gprsDetachOctet, gprsDetachIn, imsiDetachOctet, imsiDetachIn, rejectIn, entityIn};
 use crate::node::NodeNumber;
 
@@ -20,6 +22,17 @@ pub trait Coded: Sized {
 
     fn from_octet(octet: u8) -> Option<Self>
         ensures { λ r. ⌜ r ≡ valueIn octet ⌝ };
+}
+
+// Of two values the one that this octet stands for, 1 or 2. Written without a match, whose jump is mispredicted
+// half the time.
+fn either<T: Copy>(octet: u8, first: T, second: T) -> Option<T>
+    ensures { λ r. ⌜ r ≡ cond (eqb octet 1) (Some first) (cond (eqb octet 2) (Some second) None) ⌝ }
+{
+    if octet < 1 || octet > 2 {
+        return None;
+    }
+    Some(if octet == 1 { first } else { second })
 }
 
 // Why a mobile was not paged, or what became of it.
@@ -42,11 +55,7 @@ pub impl Coded for Cause as CauseCoded {
     }
 
     fn from_octet(octet: u8) -> Option<Cause> {
-        match octet {
-            1 => Some(Cause::NotAttached),
-            2 => Some(Cause::MovedToAnotherVlr),
-            _ => None,
-        }
+        either(octet, Cause::NotAttached, Cause::MovedToAnotherVlr)
     }
 }
 
@@ -69,11 +78,7 @@ pub impl Coded for UpdateType as UpdateTypeCoded {
     }
 
     fn from_octet(octet: u8) -> Option<UpdateType> {
-        match octet {
-            1 => Some(UpdateType::ImsiAttach),
-            2 => Some(UpdateType::Normal),
-            _ => None,
-        }
+        either(octet, UpdateType::ImsiAttach, UpdateType::Normal)
     }
 }
 
@@ -97,11 +102,7 @@ pub impl Coded for Class as ClassCoded {
     }
 
     fn from_octet(octet: u8) -> Option<Class> {
-        match octet {
-            1 => Some(Class::A),
-            2 => Some(Class::B),
-            _ => None,
-        }
+        either(octet, Class::A, Class::B)
     }
 }
 
@@ -124,11 +125,7 @@ pub impl Coded for GprsDetachType as GprsDetachTypeCoded {
     }
 
     fn from_octet(octet: u8) -> Option<GprsDetachType> {
-        match octet {
-            1 => Some(GprsDetachType::ByNetwork),
-            2 => Some(GprsDetachType::ByMobile),
-            _ => None,
-        }
+        either(octet, GprsDetachType::ByNetwork, GprsDetachType::ByMobile)
     }
 }
 
@@ -152,11 +149,11 @@ pub impl Coded for ImsiDetachType as ImsiDetachTypeCoded {
     }
 
     fn from_octet(octet: u8) -> Option<ImsiDetachType> {
-        match octet {
-            1 => Some(ImsiDetachType::Unacknowledged),
-            2 => Some(ImsiDetachType::Acknowledged),
-            _ => None,
-        }
+        either(
+            octet,
+            ImsiDetachType::Unacknowledged,
+            ImsiDetachType::Acknowledged,
+        )
     }
 }
 

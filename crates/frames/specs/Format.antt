@@ -70,3 +70,7 @@ frameIn s = andThen (headerRead s) (λ h. andThen (messageAt s 10) (λ m. Ok (fr
 pub record ReadsExactly (s : List ℕ) (r : Result Frame Fault) : Type 0 where
   pub spelt-so : (f : Frame) → r ≡ Ok f → Spells f s
   pub read-so : (f : Frame) → Spells f s → r ≡ Ok f
+
+-- whatever is read of these octets is read exactly
+abbrev pub AlwaysExactly : List ℕ → Type 0
+AlwaysExactly s = (r : Result Frame Fault) → r ≡ frameIn s → ReadsExactly s r

@@ -3,7 +3,7 @@ ghost use Prim.Native.Nat.{_+_, _≤_};
 ghost use lib.ListN.{length};
 ghost use mathlib.Core.Path.{_≡_};
 ghost use Rattle.elements.specs.Reading.{numberAt};
-ghost use Rattle.frames.specs.Format.{headerRead, frameIn, ReadsExactly};
+ghost use Rattle.frames.specs.Format.{headerRead, frameIn, ReadsExactly, AlwaysExactly};
 use crate::frame::Frame;
 use crate::frame::Header;
 use elements::fault::Fault;
@@ -59,25 +59,9 @@ fn header(octets: &[u8]) -> Result<Header, Fault>
     })
 }
 
-// Nodes and stamps with the message behind them.
-fn frame(octets: &[u8]) -> Result<Frame, Fault>
-    ensures { λ r. ⌜ r ≡ frameIn (now (octets .entry)) ⌝ }
-{
-    let head = header(octets)?;
-    let message = read_message_in_frame(octets)?;
-    Ok(Frame {
-        source: head.source,
-        destination: head.destination,
-        stamp: head.stamp,
-        answers: head.answers,
-        message,
-    })
-}
-
-// Does nothing: what is so read is exactly what the octets spell.
-fn spelt_exactly(octets: &[u8], read: Result<Frame, Fault>)
-    requires { ⌜ read ≡ frameIn (now octets) ⌝ }
-    ensures { λ _. ⌜ ReadsExactly (now (octets .entry)) read ⌝ }
+// Does nothing: whatever is so read is exactly what the octets spell.
+fn spelt_exactly(octets: &[u8])
+    ensures { λ _. ⌜ AlwaysExactly (now (octets .entry)) ⌝ }
 {
     // that octets are below 256 is known of a slice that is looked at
     let _empty = octets.is_empty();
@@ -88,7 +72,19 @@ pub fn read_frame(octets: &[u8]) -> Result<Frame, Fault>
     ensures value { λ r. ⌜ r ≡ frameIn (now (octets .entry)) ⌝ }
     ensures exactly { λ r. ⌜ ReadsExactly (now (octets .entry)) r ⌝ }
 {
-    let read = frame(octets);
-    spelt_exactly(octets, read);
-    read
+    spelt_exactly(octets);
+    let Header {
+        source,
+        destination,
+        stamp,
+        answers,
+    } = header(octets)?;
+    let message = read_message_in_frame(octets)?;
+    Ok(Frame {
+        source,
+        destination,
+        stamp,
+        answers,
+        message,
+    })
 }

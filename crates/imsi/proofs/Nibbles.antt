@@ -32,15 +32,6 @@ length-paired (a ∷ []) n e = absurd (omega arith)
 length-paired (a ∷ b ∷ hs) zero e = absurd (omega arith)
 length-paired (a ∷ b ∷ hs) (suc n) e = ap suc (length-paired hs n (omega arith))
 
-pub paired-at : (hs : List ℕ) (k i : ℕ) → k ≡ 2 * i → k + 1 < length hs → getD (paired hs) i 0 ≡ getD hs k 0 + 16 * getD hs (k + 1) 0
-paired-at [] k i e h = absurd (omega arith)
-paired-at (a ∷ []) k i e h = absurd (omega arith)
-paired-at (a ∷ b ∷ hs) zero zero e h = refl
-paired-at (a ∷ b ∷ hs) zero (suc i) e h = absurd (omega arith)
-paired-at (a ∷ b ∷ hs) (suc k) zero e h = absurd (omega arith)
-paired-at (a ∷ b ∷ hs) (suc zero) (suc i) e h = absurd (omega arith)
-paired-at (a ∷ b ∷ hs) (suc (suc k)) (suc i) e h = let f : suc (suc k) + 1 ≡ suc (suc (k + 1)) = omega arith in rw f (paired-at hs k i (omega arith) (omega arith))
-
 pub paired-++ : (hs ts : List ℕ) (n : ℕ) → length hs ≡ 2 * n → paired (hs ++ ts) ≡ paired hs ++ paired ts
 paired-++ [] ts n e = refl
 paired-++ (a ∷ []) ts n e = absurd (omega arith)
@@ -61,11 +52,6 @@ halves-paired (a ∷ b ∷ hs) (suc n) s e =
 pub paired-halves : (os : List ℕ) → paired (halves os) ≡ os
 paired-halves [] = refl
 paired-halves (o ∷ os) = let e : o % 16 + 16 * (o / 16) ≡ o = omega arith in λ i. e i ∷ paired-halves os i
-
-pub small-at : (hs : List ℕ) → Small hs → (k : ℕ) → getD hs k 0 < 16
-small-at [] s k = omega arith
-small-at (h ∷ hs) s zero = s .0
-small-at (h ∷ hs) s (suc k) = small-at hs (s .1) k
 
 pub small-++ : (xs ys : List ℕ) → Small xs → Small ys → Small (xs ++ ys)
 small-++ [] ys a b = b

@@ -6,8 +6,8 @@ use mathlib.Core.List.{List, [], _∷_, _++_, append-assoc}
 use Prim.Native.Nat.{ℕ, zero, suc, _+_, _-_, _*_, _/_, _%_, _<_, _≤_}
 use native.Mathlib.Omega.{arith}
 use lib.Dec.{eqb}
-use lib.ListN.{length, drop, replicate, set}
-use Rattle.std.proofs.shelf.Lists.{length-append, drop-set}
+use lib.ListN.{length, replicate}
+use Rattle.std.proofs.shelf.Lists.{length-append}
 use Rattle.std.proofs.shelf.Tests.{cond-true, cond-false, cond-both, eq-eqb, ne-eqb, eqb-true, eqb-false, cases-eq}
 use Rattle.imsi.specs.Halves.{paired, Small}
 use Rattle.imsi.specs.Spelling.{digits, spelt, filled, imsiOctets}
@@ -16,13 +16,6 @@ use Rattle.imsi.proofs.Nibbles.{small-++, length-paired, paired-++}
 pub small-digits : (k v : ℕ) → Small (digits k v)
 small-digits zero v = tt
 small-digits (suc k) v = small-++ (digits k (v / 10)) (v % 10 ∷ []) (small-digits k (v / 10)) (omega arith, tt)
-
-small-filler : (n : ℕ) → Small (replicate n 15)
-small-filler zero = tt
-small-filler (suc n) = (omega arith, small-filler n)
-
-pub small-filled : (k v : ℕ) → Small (filled k v)
-small-filled k v = (omega arith, small-++ (digits k v) (replicate (15 - k) 15) (small-digits k v) (small-filler (15 - k)))
 
 pub small-spelt : (k v : ℕ) → Small (spelt k v)
 small-spelt k v =
@@ -43,17 +36,6 @@ length-spelt k v =
 
 pub length-octets : (k v : ℕ) → length (imsiOctets k v) ≡ k / 2 + 1
 length-octets k v = length-paired (spelt k v) (k / 2 + 1) (length-spelt k v)
-
--- one digit more from the back
-pub turn : (hs : List ℕ) (i j left : ℕ) (all : List ℕ) → i ≡ suc j → i < length hs → digits i left ++ drop (i + 1) hs ≡ all → digits j (left / 10) ++ drop (j + 1) (set hs (j + 1) (left % 10)) ≡ all
-turn hs i j left all e h inv =
-    let l : j + 1 < length hs = omega arith in
-    let n : j + 1 + 1 ≡ i + 1 = omega arith in
-    ap (λ t. digits j (left / 10) ++ t) (drop-set hs (j + 1) (left % 10) l)
-    ∙ sym (append-assoc (digits j (left / 10)) (left % 10 ∷ []) (drop (j + 1 + 1) hs))
-    ∙ ap (λ m. digits (suc j) left ++ drop m hs) n
-    ∙ ap (λ m. digits m left ++ drop (i + 1) hs) (sym e)
-    ∙ inv
 
 -- halves of F only make octets FF
 pub paired-filler : (m n : ℕ) → m ≡ 2 * n → paired (replicate m 15) ≡ replicate n 255

@@ -2,7 +2,7 @@
 ghost use Prim.Native.Nat.{_*_, _<_, _≤_};
 ghost use lib.ListN.{length, getD, take, drop};
 ghost use mathlib.Core.Path.{_≡_};
-ghost use Rattle.imsi.specs.Halves.{halves, paired, Small};
+ghost use Rattle.imsi.specs.Halves.{halves, paired};
 ghost use Rattle.imsi.specs.Spelling.{valued, filled};
 
 // A half octet above this is no digit.
@@ -17,47 +17,60 @@ pub(crate) fn half(octets: &[u8], k: usize) -> u8
     if k % 2 == 0 { octet % 16 } else { octet / 16 }
 }
 
-// The number that the `count` halves after the first write in decimal, unless one is no digit.
+// The number that the `count` halves after the first write in decimal, unless one is no digit. They are taken
+// by octets: the high half of the first, both halves of those behind it, and the low half of the last where
+// the count is even.
 pub(crate) fn value_in(octets: &[u8], count: usize) -> Option<u64>
     requires inside { ⌜ count < 2 * length (now octets) ⌝ }
+    requires some { ⌜ 1 ≤ count ⌝ }
     requires few { ⌜ count ≤ 15 ⌝ }
     ensures { λ r. ⌜ r ≡ valued 0 (take count (drop 1 (halves (now (octets .entry))))) ⌝ }
 {
-    let mut value: u64 = 0;
-    for j in 0..count {
-        let digit = half(octets, j + 1);
-        if digit > LAST_DIGIT {
+    let first = octets[0] / 16;
+    if first > LAST_DIGIT {
+        return None;
+    }
+    let mut value = first as u64;
+    for i in 1..(count + 1) / 2 {
+        let low = octets[i] % 16;
+        if low > LAST_DIGIT {
             return None;
         }
-        value = value * 10 + digit as u64;
+        let high = octets[i] / 16;
+        if high > LAST_DIGIT {
+            return None;
+        }
+        value = value * 100 + (low * 10 + high) as u64;
     }
-    Some(value)
+    if count % 2 == 1 {
+        return Some(value);
+    }
+    let last = octets[count / 2] % 16;
+    if last > LAST_DIGIT {
+        return None;
+    }
+    Some(value * 10 + last as u64)
 }
 
-// Sixteen halves: the marker, the digits, and F in each place after them. The digits are made from the
-// last one back, as remainders of ten.
-pub(crate) fn halves_of(digits: u8, value: u64) -> [u8; 16]
-    requires { ⌜ digits ≤ 15 ⌝ }
-    ensures { λ r. ⌜ r ≡ filled digits value ⌝ }
+// The octets that spell the last `digits` digits of `value`, FF in each place after them. They are made from
+// the last one back, two digits at a time: only the first octet, which has the marker, and the last one of an
+// even count, which has the filler, have one digit.
+pub(crate) fn octets_from(digits: u8, value: u64) -> [u8; 8]
+    requires some { ⌜ 1 ≤ digits ⌝ }
+    requires few { ⌜ digits ≤ 15 ⌝ }
+    ensures { λ r. ⌜ r ≡ paired (filled digits value) ⌝ }
 {
-    let mut halves = [15u8; 16];
-    halves[0] = 1 + 8 * (digits % 2);
+    let mut octets = [255u8; 8];
     let mut left = value;
-    for j in (0..digits as usize).rev() {
-        halves[j + 1] = (left % 10) as u8;
+    if digits % 2 == 0 {
+        octets[digits as usize / 2] = 240 + (left % 10) as u8;
         left /= 10;
     }
-    halves
-}
-
-// Two halves to an octet, the low one first.
-pub(crate) fn pair_up(halves: [u8; 16]) -> [u8; 8]
-    requires { ⌜ Small halves ⌝ }
-    ensures { λ r. ⌜ r ≡ paired halves ⌝ }
-{
-    let mut octets = [0u8; 8];
-    for i in 0..8 {
-        octets[i] = halves[2 * i] + 16 * halves[2 * i + 1];
+    for i in (1..(digits as usize + 1) / 2).rev() {
+        let pair = (left % 100) as u8;
+        octets[i] = pair / 10 + 16 * (pair % 10);
+        left /= 100;
     }
+    octets[0] = 1 + 8 * (digits % 2) + 16 * (left % 10) as u8;
     octets
 }

@@ -19,6 +19,7 @@ const FILLER: u8 = 15;
 // The `count` halves after the first as a digit count and a value.
 fn counted_in(octets: &[u8], count: usize) -> Option<(u8, u64)>
     requires inside { ⌜ count < 2 * length (now octets) ⌝ }
+    requires some { ⌜ 1 ≤ count ⌝ }
     requires few { ⌜ count ≤ 15 ⌝ }
     ensures { λ r. ⌜ r ≡ after count (halves (now (octets .entry))) ⌝ }
 {

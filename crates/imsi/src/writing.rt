@@ -4,8 +4,7 @@ ghost use mathlib.Core.Path.{_≡_};
 ghost use Rattle.imsi.specs.Spelling.{lawfulImsi};
 ghost use Rattle.imsi.specs.Written.{spellingOf, writtenOf, ReadBack};
 use crate::Imsi;
-use crate::halves::halves_of;
-use crate::halves::pair_up;
+use crate::halves::octets_from;
 
 // The octets that spell an IMSI are the first `count`; every octet after them is FF.
 #[derive(Clone, Copy)]
@@ -20,7 +19,7 @@ fn spelling(imsi: Imsi) -> ImsiOctets
     ensures { λ r. ⌜ r ≡ spellingOf imsi ⌝ }
 {
     ImsiOctets {
-        octets: pair_up(halves_of(imsi.digits, imsi.value)),
+        octets: octets_from(imsi.digits, imsi.value),
         count: imsi.digits as usize / 2 + 1,
     }
 }
