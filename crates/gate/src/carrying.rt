@@ -25,10 +25,8 @@ impl<C: Carrier> Gate<C> {
         ensures pairs { λ r. ⌜ rows-of (r .pairs) ≡ [] ⌝ }
         ensures empty { λ r. ⌜ (C·Carrier .waiting below ≡ [] → Empty (C·Carrier .waiting (r .below)) (lastGivenIn (rows-of (r .pairs)))) ⌝ }
     {
-        Gate {
-            below,
-            pairs: Pairs::new(),
-        }
+        let pairs = Pairs::new();
+        Gate { below, pairs }
     }
 }
 
