@@ -15,7 +15,7 @@ use words::line::BadLine;
 use words::line::BadLineDisplay;
 use words::line::LineOctets;
 
-// A carrier to be made, with the script of each that slips.
+// A carrier to be made, with the script if it slips.
 #[derive(Drop)]
 pub(crate) enum Make {
     Queue,
@@ -138,13 +138,13 @@ fn script_in(heap: Global, text: &[u8]) -> Result<Option<Vec<u8>>, AllocError> {
     Ok(Some(script))
 }
 
-// The numbers of a script, as they are written in a line.
+// A slip carrier as a line names it.
 #[derive(Clone, Copy)]
-struct Script<'a> {
+struct Slipping<'a> {
     octets: &'a [u8],
 }
 
-impl fmt::Display for Script<'_> as ScriptDisplay {
+impl fmt::Display for Slipping<'_> as SlippingDisplay {
     fn fmt<W: fmt::Write>(&self, f: &mut fmt::Formatter<W>) -> fmt::Result {
         write!(f, "slip")?;
         for octet in self.octets {
@@ -158,9 +158,9 @@ pub(crate) impl fmt::Display for Make as MakeDisplay {
     fn fmt<W: fmt::Write>(&self, f: &mut fmt::Formatter<W>) -> fmt::Result {
         match self {
             Make::Queue => write!(f, "queue"),
-            Make::Slip(script) => write!(f, "{}", Script { octets: script }),
+            Make::Slip(script) => write!(f, "{}", Slipping { octets: script }),
             Make::GateOverQueue => write!(f, "gate queue"),
-            Make::GateOverSlip(script) => write!(f, "gate {}", Script { octets: script }),
+            Make::GateOverSlip(script) => write!(f, "gate {}", Slipping { octets: script }),
             Make::Mailbox => write!(f, "mailbox"),
             Make::Nowhere => write!(f, "nowhere"),
         }

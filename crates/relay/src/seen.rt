@@ -28,8 +28,8 @@ pub(crate) impl fmt::Display for Seen<'_> as SeenDisplay {
     }
 }
 
-// What was put: the frame in words, or the fault alone, since the script shows the octets. No carrier
-// takes octets of the wrong number.
+// What was put: the frame in words, or the fault alone, since the script shows the octets. Octets
+// not 11 to 64 in number are lost in every carrier.
 #[derive(Clone, Copy)]
 pub(crate) struct Offered<'a> {
     pub(crate) octets: &'a [u8],

@@ -1,0 +1,4 @@
+pub mod Denials
+pub mod Marks
+pub mod Rows
+pub mod Sends
