@@ -21,6 +21,8 @@
 //
 // An answer from 256 on is a refusal, 256 * number + place; what the caller lent is then as it was. The
 // number is a fault's, 20 to 28, or 1 where there are fewer than fifteen fields.
+#![tactic(auto)]
+
 ghost use Rattle.std.specs.Prelude.{◌≡◌, ◌<◌, ◌≤◌, ◌++◌, length, take, drop};
 ghost use Rattle.frames.specs.Format.{frame_in};
 ghost use Rattle.capi.specs.Taken.{frame_from};

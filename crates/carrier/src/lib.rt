@@ -1,4 +1,6 @@
 // What carries frames between nodes: its meaning, and the promise to give frames in order.
+#![tactic(auto)]
+
 pub mod carrier;
 pub mod datagram;
 pub mod in_order;

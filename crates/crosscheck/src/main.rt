@@ -1,5 +1,7 @@
 // Two readers of the same octets: the library, and a second one that is written apart from it. Whatever
 // they are given, they must answer the same.
+#![tactic(auto)]
+
 mod answer;
 mod compare;
 mod generator;

@@ -1,4 +1,6 @@
 // Reads lines of hexadecimal octets, one frame each, and says each frame in words, or its fault.
+#![tactic(auto)]
+
 mod outcome;
 mod tally;
 

@@ -1,4 +1,6 @@
 // What a message is made of: faults, node numbers, codes, and the twelve kinds of element.
+#![tactic(auto)]
+
 pub mod area;
 pub mod code;
 pub mod element;

@@ -1,4 +1,6 @@
 // The worked examples, each proved of the definitions that the code is held to.
+#![tactic(auto)]
+
 ghost use Rattle.std.specs.Prelude.{◌≡◌, length};
 ghost use Rattle.examples.specs.Rows.{rows, Stand};
 

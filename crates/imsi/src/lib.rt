@@ -1,4 +1,6 @@
 // The IMSI, a mobile's number: what is lawful, and the octets that spell it.
+#![tactic(auto)]
+
 ghost use Rattle.std.specs.Prelude.{◌≡◌, ◌^◌, ◌≤◌};
 ghost use Rattle.imsi.specs.Spelling.{lawful_imsi};
 

@@ -1,4 +1,6 @@
 // The twelve messages of the Gs interface: what they say, and how they are read and written.
+#![tactic(auto)]
+
 pub mod message;
 mod put;
 pub mod reading;

@@ -1,5 +1,7 @@
 // A carrier that keeps nothing. It is lawful: what a carrier means says nothing of arrival. So whatever is proved
 // over every carrier, and over every carrier in order, is proved over this one too.
+#![tactic(auto)]
+
 ghost use Rattle.std.specs.Prelude.{◌≡◌, [], None as Nothing};
 ghost use Rattle.std.proofs.Common.{rules};
 

@@ -1,4 +1,6 @@
 // Reads a script of carriers and frames, and shows what each carrier does with the frames.
+#![tactic(auto)]
+
 mod bench;
 mod command;
 mod relay;

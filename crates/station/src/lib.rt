@@ -1,4 +1,6 @@
 // What an SGSN and a VLR have in common: marks, denials, recovery, and how frames are sent and taken.
+#![tactic(auto)]
+
 pub mod denial;
 pub mod mark;
 pub mod receiving;

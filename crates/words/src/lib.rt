@@ -1,4 +1,6 @@
 // Text that the programs share: octets in hexadecimal, and frames and faults in words.
+#![tactic(auto)]
+
 pub mod element;
 pub mod fault;
 pub mod frame;

@@ -12,7 +12,7 @@ loop-low-preserved-then-before g c =
     let xs = c.args.list.now in
     let mid = c.loop-low.low + (c.loop-low.high - c.loop-low.low) / 2 in
     let inside : mid < length xs = omega (arith, v.1) in
-    let lt = ltb-true (rank_of c.args.imsi) (rank_of c.imsi_there.result) (sym c.if-before.ensures) in (
+    let lt = ltb-true (rank_of c.args.imsi) (rank_of c.imsi-there.result) (sym c.if-before.ensures) in (
       omega arith,
       omega arith,
       λ up. (
@@ -21,7 +21,7 @@ loop-low-preserved-then-before g c =
             omega (
               arith,
               lt,
-              ap rank_of c.imsi_there.ensures,
+              ap rank_of c.imsi-there.ensures,
               Climbs-from w xs up mid k d le h,
               ap (λ y. rank_of (w y)) (get_or_read xs mid c.index-list-middle.result inside c.index-list-middle.is d),
             ),
@@ -35,8 +35,8 @@ loop-low-preserved g c =
     let xs = c.args.list.now in
     let mid = c.loop-low.low + (c.loop-low.high - c.loop-low.low) / 2 in
     let inside : mid < length xs = omega (arith, v.1) in
-    let le = ltb-false (rank_of c.args.imsi) (rank_of c.imsi_there.result) (sym c.if-before.ensures) in
-    let ne : (rank_of c.args.imsi ≡ rank_of c.imsi_there.result → ⊥) = false-eqb _ _ c.if-is-same.ensures.ranked in (
+    let le = ltb-false (rank_of c.args.imsi) (rank_of c.imsi-there.result) (sym c.if-before.ensures) in
+    let ne : (rank_of c.args.imsi ≡ rank_of c.imsi-there.result → ⊥) = false-eqb _ _ c.if-is_same.ensures.ranked in (
       omega arith,
       v.1,
       λ up. (
@@ -45,7 +45,7 @@ loop-low-preserved g c =
               arith,
               le,
               ne,
-              ap rank_of c.imsi_there.ensures,
+              ap rank_of c.imsi-there.ensures,
               Climbs-from w xs up k mid d (omega arith) inside,
               ap (λ y. rank_of (w y)) (get_or_read xs mid c.index-list-middle.result inside c.index-list-middle.is d),
             )),

@@ -13,7 +13,7 @@ returns-then-held-places g c =
     let f = g.F.Change.to c.args.change.now in
     let ps = c.args.places.now in
     let n = c.args.held in
-    let all = changed_places f n ps c.change-all.new.list c.change-all.ensures in
+    let all = changed_places f n ps c.change_all.new.list c.change_all.ensures in
     record {
       places = λ h. all;
       lookups = λ h keeps.

@@ -53,7 +53,7 @@ returns-else-held-places-2 g c h =
     let p = subst (λ m. Place w m xs (Err i)) c.imsi.ensures q in
     let s = missing w xs (w e) i p in
     let len = length-take-le n ps h.0 in
-    let both = inserted_records n ps c.insert-at.new.list _ i e (omega (arith, h.0, c.if-held-places-2.false)) (omega (arith, p.0)) c.insert-at.ensures in (
+    let both = inserted_records n ps c.insert_at.new.list _ i e (omega (arith, h.0, c.if-held-places-2.false)) (omega (arith, p.0)) c.insert_at.ensures in (
       omega (arith, h.0, c.if-held-places-2.false),
       ap (λ o. is_some o || ltb (length xs) (length ps)) (at_missing w xs (w e) i s) ∙ lt-ltb (length xs) (length ps) (omega (arith, h.0, c.if-held-places-2.false)),
       both.1 ∙ stored_inserted w xs e i s,

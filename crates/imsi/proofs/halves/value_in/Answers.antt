@@ -6,8 +6,8 @@ use Rattle.imsi.proofs.Values.{room}
 use Rattle.imsi.proofs.Octets.{ahead, digit_on, digit_off, pair_on, pair_off, pair_grown, pair_room}
 use Rattle.imsi.proofs.halves.value_in.Goals as goal
 
-pub returns-then-first-gt-LAST-DIGIT : goal.returns-then-first-gt-LAST-DIGIT
-returns-then-first-gt-LAST-DIGIT c =
+pub returns-then-first-gt-LAST_DIGIT : goal.returns-then-first-gt-LAST_DIGIT
+returns-then-first-gt-LAST_DIGIT c =
     let os = c.args.octets.now in
     sym (digit_off os c.args.count 0 0 (get_or os 0 0 / 16) (omega arith) (omega arith) (half_high os 1 0 refl) (omega arith))
 
@@ -18,22 +18,22 @@ loop-i-init c =
     let is : 0 * 10 + first ≡ first = omega arith in
     (omega arith, sym (digit_on os c.args.count 0 0 first (omega arith) (omega arith) (half_high os 1 0 refl) (omega arith) ∙ ap (λ v. valued v (drop 1 (ahead os c.args.count))) is))
 
-pub returns-then-low-gt-LAST-DIGIT : goal.returns-then-low-gt-LAST-DIGIT
-returns-then-low-gt-LAST-DIGIT c =
+pub returns-then-low-gt-LAST_DIGIT : goal.returns-then-low-gt-LAST_DIGIT
+returns-then-low-gt-LAST_DIGIT c =
     let os = c.args.octets.now in
     let i = c.loop-i.i in
     sym (sym c.loop-i.invariant.1 ∙ digit_off os c.args.count (2 * i - 1) c.loop-i.value (get_or os i 0 % 16) (omega arith) (omega arith) (half_low os (2 * i - 1 + 1) i (omega arith)) (omega arith))
 
-pub returns-then-high-gt-LAST-DIGIT : goal.returns-then-high-gt-LAST-DIGIT
-returns-then-high-gt-LAST-DIGIT c =
+pub returns-then-high-gt-LAST_DIGIT : goal.returns-then-high-gt-LAST_DIGIT
+returns-then-high-gt-LAST_DIGIT c =
     let os = c.args.octets.now in
     sym (sym c.loop-i.invariant.1 ∙ pair_off os c.args.count c.loop-i.i c.loop-i.value (omega arith) (omega arith) (omega arith) (omega arith) (omega arith))
 
-pub overflow-mul-value : goal.overflow-mul-value
-overflow-mul-value c = let r = pair_room c.loop-i.value (2 * c.loop-i.i - 1) c.loop-i.invariant.0 (omega arith) in omega arith
+pub overflow_mul-value : goal.overflow_mul-value
+overflow_mul-value c = let r = pair_room c.loop-i.value (2 * c.loop-i.i - 1) c.loop-i.invariant.0 (omega arith) in omega arith
 
-pub overflow-add-value-in-loop-i : goal.overflow-add-value-in-loop-i
-overflow-add-value-in-loop-i c = let r = pair_room c.loop-i.value (2 * c.loop-i.i - 1) c.loop-i.invariant.0 (omega arith) in omega arith
+pub overflow_add-value-in-loop-i : goal.overflow_add-value-in-loop-i
+overflow_add-value-in-loop-i c = let r = pair_room c.loop-i.value (2 * c.loop-i.i - 1) c.loop-i.invariant.0 (omega arith) in omega arith
 
 pub loop-i-preserved : goal.loop-i-preserved
 loop-i-preserved c =
@@ -49,22 +49,22 @@ returns-then-count-eq1 c =
     let end = c.loop-i.auto.i-end (omega arith) in
     sym (at_drop_all (valued c.loop-i.value) (ahead os c.args.count) (2 * c.loop-i.i - 1) (simp length-take (omega arith))) ∙ c.loop-i.invariant.1
 
-pub returns-then-last-gt-LAST-DIGIT : goal.returns-then-last-gt-LAST-DIGIT
-returns-then-last-gt-LAST-DIGIT c =
+pub returns-then-last-gt-LAST_DIGIT : goal.returns-then-last-gt-LAST_DIGIT
+returns-then-last-gt-LAST_DIGIT c =
     let os = c.args.octets.now in
     let n = c.args.count in
     let i = c.loop-i.i in
     let end = c.loop-i.auto.i-end (omega arith) in
     sym (sym c.loop-i.invariant.1 ∙ digit_off os n (2 * i - 1) c.loop-i.value (get_or os (n / 2) 0 % 16) (omega arith) (omega arith) (half_low os (2 * i - 1 + 1) (n / 2) (omega arith)) (omega arith))
 
-pub overflow-mul-result : goal.overflow-mul-result
-overflow-mul-result c =
+pub overflow_mul-result : goal.overflow_mul-result
+overflow_mul-result c =
     let end = c.loop-i.auto.i-end (omega arith) in
     let r = pair_room c.loop-i.value (2 * c.loop-i.i - 1) c.loop-i.invariant.0 (omega arith) in
     omega arith
 
-pub overflow-add-result : goal.overflow-add-result
-overflow-add-result c =
+pub overflow_add-result : goal.overflow_add-result
+overflow_add-result c =
     let end = c.loop-i.auto.i-end (omega arith) in
     let r = pair_room c.loop-i.value (2 * c.loop-i.i - 1) c.loop-i.invariant.0 (omega arith) in
     omega arith

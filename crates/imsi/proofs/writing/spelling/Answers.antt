@@ -7,4 +7,4 @@ pub returns : goal.returns
 returns c =
     let i = c.args.imsi in
     let few = (lawful_parts i.digits i.value c.requires).few in
-    ap (λ o. record { octets = o; count = i.digits / 2 + 1 }) (c.octets-from.ensures ∙ octets_filled i.digits i.value few)
+    ap (λ o. record { octets = o; count = i.digits / 2 + 1 }) (c.octets_from.ensures ∙ octets_filled i.digits i.value few)

@@ -20,6 +20,6 @@ returns c =
     record {
       few = omega (arith, c.put.ensures.next_at);
       wrote =
-          subst (λ (t : List ℕ × (ℕ × ℕ)). Wrote c.args.at (c.args.type-octet ∷ t.1.0 ∷ t.1.1 ∷ t.0) c.args.buffer.now c.put.new.buffer c.put.result)
+          subst (λ (t : List ℕ × (ℕ × ℕ)). Wrote c.args.at (c.args.type_octet ∷ t.1.0 ∷ t.1.1 ∷ t.0) c.args.buffer.now c.put.new.buffer c.put.result)
           (λ j. (is j, (c.identifier.ensures j, count j))) both;
     }

@@ -13,8 +13,8 @@ returns-in-Paging c =
     (record {
       few = omega arith;
       wrote =
-          subst (λ t. Wrote c.args.at (t ∷ imsi_element w.imsi ++ (tmsi_element w.tmsi ++ channel_element w.channel)) c.args.buffer.now c.put-channel.new.buffer c.put-channel.result) (c.type-octet-head.ensures ∙ ap type_of w.is)
-          (wrote_more c.put-head-next.ensures.wrote (wrote_more c.put-tmsi-next.ensures.wrote c.put-channel.ensures.wrote (omega arith)) (omega arith));
+          subst (λ t. Wrote c.args.at (t ∷ imsi_element w.imsi ++ (tmsi_element w.tmsi ++ channel_element w.channel)) c.args.buffer.now c.put_channel.new.buffer c.put_channel.result) (c.type_octet-head.ensures ∙ ap type_of w.is)
+          (wrote_more c.put_head-next.ensures.wrote (wrote_more c.put_tmsi-next.ensures.wrote c.put_channel.ensures.wrote (omega arith)) (omega arith));
     })
 
 pub returns-in-LuRequest : goal.returns-in-LuRequest
@@ -25,11 +25,11 @@ returns-in-LuRequest c =
       few = omega arith;
       wrote =
           subst
-          (λ (t : ℕ × ℕ × ℕ). Wrote c.args.at (t.0 ∷ imsi_element w.imsi ++ (octet_element el.UpdateType t.1 ++ (area_element el.OldArea w.old-area ++ (area_element el.NewArea w.new-area ++ octet_element el.Class t.2)))) c.args.buffer.now c.put-octet.new.buffer c.put-octet.result)
-          (λ j. ((c.type-octet-head.ensures ∙ ap type_of w.is) j, c.octet.ensures j, c.octet-in-LuRequest.ensures j))
-          (wrote_more c.put-head-next-in-LuRequest.ensures.wrote
-          (wrote_more c.put-octet-next.ensures.wrote
-          (wrote_more c.put-area-next.ensures.wrote (wrote_more c.put-area-next-in-LuRequest.ensures.wrote c.put-octet.ensures.wrote (omega arith)) (omega arith))
+          (λ (t : ℕ × ℕ × ℕ). Wrote c.args.at (t.0 ∷ imsi_element w.imsi ++ (octet_element el.UpdateType t.1 ++ (area_element el.OldArea w.old_area ++ (area_element el.NewArea w.new_area ++ octet_element el.Class t.2)))) c.args.buffer.now c.put_octet.new.buffer c.put_octet.result)
+          (λ j. ((c.type_octet-head.ensures ∙ ap type_of w.is) j, c.octet.ensures j, c.octet-in-LuRequest.ensures j))
+          (wrote_more c.put_head-next-in-LuRequest.ensures.wrote
+          (wrote_more c.put_octet-next.ensures.wrote
+          (wrote_more c.put_area-next.ensures.wrote (wrote_more c.put_area-next-in-LuRequest.ensures.wrote c.put_octet.ensures.wrote (omega arith)) (omega arith))
           (omega arith))
           (omega arith));
     })
@@ -41,6 +41,6 @@ returns-in-LuAccept c =
     (record {
       few = omega arith;
       wrote =
-          subst (λ t. Wrote c.args.at (t ∷ imsi_element w.imsi ++ area_element el.NewArea w.new-area) c.args.buffer.now c.put-area.new.buffer c.put-area.result) (c.type-octet-head.ensures ∙ ap type_of w.is)
-          (wrote_more c.put-head-next-in-LuAccept.ensures.wrote c.put-area.ensures.wrote (omega arith));
+          subst (λ t. Wrote c.args.at (t ∷ imsi_element w.imsi ++ area_element el.NewArea w.new_area) c.args.buffer.now c.put_area.new.buffer c.put_area.result) (c.type_octet-head.ensures ∙ ap type_of w.is)
+          (wrote_more c.put_head-next-in-LuAccept.ensures.wrote c.put_area.ensures.wrote (omega arith));
     })

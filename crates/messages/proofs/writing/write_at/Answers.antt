@@ -3,7 +3,7 @@ use Rattle.messages.proofs.writing.write_at.Goals as goal
 
 pub returns : goal.returns
 returns c = record {
-  value = c.write-checked.ensures.value;
-  octets = c.write-checked.ensures.octets;
-  back = read_back c.args.at c.args.message c.args.buffer.now _ _ c.requires c.write-checked.ensures.value c.write-checked.ensures.octets;
+  value = c.write_checked.ensures.value;
+  octets = c.write_checked.ensures.octets;
+  back = read_back c.args.at c.args.message c.args.buffer.now _ _ c.requires c.write_checked.ensures.value c.write_checked.ensures.octets;
 }

@@ -8,12 +8,12 @@ use Rattle.station.proofs.ticking.repeat.Goals as goal
 
 pub returns : goal.returns
 returns g c =
-    let own = c.args.own_val in
+    let own = c.args.own in
     let peer = c.args.peer in
     let row = c.args.row in
     let yes : repeat_now row ≡ true = search rules in
     record {
-      row = λ room nodes. c.repeated.ensures ∙ ap (repeated row) (c.send-stamp.ensures.stamp room nodes (own_lawful own peer nodes)) ∙ sym (cond-true _ _ _ yes);
-      stamp = λ room nodes. c.send-stamp.ensures.stamp room nodes (own_lawful own peer nodes) ∙ ap (λ o. c.args.last + length (cond o (reset_to own peer ∷ []) [])) (sym yes);
+      row = λ room nodes. c.repeated.ensures ∙ ap (repeated row) (c.send-stamp.ensures.stamp room) ∙ sym (cond-true _ _ _ yes);
+      stamp = λ room nodes. c.send-stamp.ensures.stamp room ∙ ap (λ o. c.args.last + length (cond o (reset_to own peer ∷ []) [])) (sym yes);
       sent = λ room nodes. subst (λ o. Sent g.C.Carrier.puts own c.args.last (cond o (reset_to own peer ∷ []) []) c.args.carrier.now c.send-stamp.new.carrier) (sym yes) (c.send-stamp.ensures.sent room nodes (own_lawful own peer nodes));
     }
