@@ -4,14 +4,14 @@ use Rattle.mailbox.specs.Slots.{is_of, place}
 use Rattle.mailbox.proofs.Scans.{place_more}
 use Rattle.mailbox.proofs.carrying.slot_of.Goals as goal
 
-pub returns-then-is-of : goal.returns-then-is-of
-returns-then-is-of c =
-    let m = place_more (is_of c.args.source c.args.destination) c.args.slots.now c.loop-i.i c.index-slots-i.result true c.loop-i-test.true c.index-slots-i.is (sym c.is-of.ensures ∙ c.if-is-of.true) in
+pub returns-then-is_of : goal.returns-then-is_of
+returns-then-is_of c =
+    let m = place_more (is_of c.args.source c.args.destination) c.args.slots.now c.loop-i.i c.index-slots-i.result true c.loop-i-test.true c.index-slots-i.is (sym c.is_of.ensures ∙ c.if-is_of.true) in
     omega (arith, m)
 
 pub loop-i-preserved : goal.loop-i-preserved
 loop-i-preserved c =
-    let m = place_more (is_of c.args.source c.args.destination) c.args.slots.now c.loop-i.i c.index-slots-i.result false c.loop-i-test.true c.index-slots-i.is (sym c.is-of.ensures ∙ c.if-is-of.false) in
+    let m = place_more (is_of c.args.source c.args.destination) c.args.slots.now c.loop-i.i c.index-slots-i.result false c.loop-i-test.true c.index-slots-i.is (sym c.is_of.ensures ∙ c.if-is_of.false) in
     omega (arith, m)
 
 pub returns : goal.returns

@@ -3,4 +3,4 @@ use native.Mathlib.Numerals.{unary_clauses}
 use Rattle.mailbox.proofs.mailbox.Mailbox.place_for.Goals as goal
 
 pub returns : goal.returns
-returns c = record { at = simp unary_clauses at c.first-for.ensures; long = omega arith }
+returns c = record { at = simp unary_clauses at c.first_for.ensures; long = omega arith }
