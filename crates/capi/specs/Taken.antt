@@ -1,5 +1,5 @@
 -- The frame that a row of numbers says, or the first fault in the order of the row.
-use Rattle.std.specs.Prelude.{ℕ, ◌/◌, ◌%◌, cond, List, [], ◌∷◌, Some, None, Ok, Err, Option, Result, ◌==◌, nat_lt, slice_index}
+use Rattle.std.specs.Prelude.{ℕ, ◌/◌, ◌%◌, cond, List, [], ◌∷◌, Some, None, Ok, Option, Result, ◌==◌, nat_lt, slice_index}
 use Rattle.imsi.specs.declared.Imsi.{Imsi}
 use Rattle.elements.specs.declared.area.LocationArea.{LocationArea}
 use Rattle.elements.specs.declared.fault.Fault.{Fault}

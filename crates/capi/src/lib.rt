@@ -1,4 +1,4 @@
-// The frame reader and the frame writer for callers in C or Rust, over plain numbers.
+// The frame reader and the frame writer over plain numbers. `capi_c` has them under the names that C calls.
 //
 // A frame is a row of fifteen numbers. One that the message lacks is 0 when a frame is read, and is not
 // looked at when one is written.
@@ -62,8 +62,7 @@ fn put_row(fields: &mut [u64], row: [u64; 15])
 }
 
 // Reads the frame that these octets are into the first fifteen fields, and answers 0; or refuses.
-#[unsafe(no_mangle)]
-pub extern "C" fn gs_read_frame(octets: &[u8], fields: &mut [u64]) -> u64
+pub fn gs_read_frame(octets: &[u8], fields: &mut [u64]) -> u64
     ensures answer { result ≡ read_answer octets.now fields.old }
     ensures row { fields.new ≡ read_fields octets.now fields.old }
 {
@@ -81,8 +80,7 @@ pub extern "C" fn gs_read_frame(octets: &[u8], fields: &mut [u64]) -> u64
 
 // Writes the frame that the first fifteen fields say at the front of the buffer, which must have room for
 // the longest frame, and answers how many octets it has; or refuses.
-#[unsafe(no_mangle)]
-pub extern "C" fn gs_write_frame(fields: &[u64], buffer: &mut [u8]) -> u64
+pub fn gs_write_frame(fields: &[u64], buffer: &mut [u8]) -> u64
     ensures answer { result ≡ write_answer fields.now buffer.old }
     ensures octets { buffer.new ≡ write_buffer fields.now buffer.old }
     ensures back { result < 256 → frame_in (take result buffer.new) ≡ frame_from fields.now }

@@ -1,6 +1,5 @@
 -- How lines are counted.
 use Rattle.std.specs.Prelude.{ℕ, ◌+◌, ◌-◌, ◌^◌, min, List, replicate, slice_index, slice_set}
-use Rattle.elements.specs.declared.fault.Fault.{Fault}
 use Rattle.elements.specs.Faults.{fault_number}
 use Rattle.decode.specs.declared.outcome.Outcome.{Outcome}
 use Rattle.decode.specs.declared.outcome.Outcome.TheVariants.{Read, Faulty, Bad}

@@ -1,12 +1,12 @@
 -- Lists of records that climb.
-use Rattle.std.proofs.Common.{◌≡◌, ℕ, zero, suc, ◌+◌, ◌-◌, ◌<◌, ◌≤◌, true, false, ltb, List, [], ◌∷◌, map, length, get_or, take, set, Ok, Err, sym, refl, ap, ◌∙◌, subst, ⊎_elim, arith, length-set}
+use Rattle.std.proofs.Common.{◌≡◌, ℕ, zero, suc, ◌+◌, ◌-◌, ◌<◌, ◌≤◌, false, ltb, List, [], ◌∷◌, map, length, get_or, set, Ok, Err, refl, ap, ⊎_elim, arith, length-set}
 use Rattle.std.specs.List.{insert}
-use Rattle.std.proofs.lemmas.List.{get_or_default, length-map}
+use Rattle.std.proofs.lemmas.List.{length-map}
 use Rattle.std.proofs.lemmas.Bool.{cases_eq, cases_lt, lt-ltb, le-ltb}
 use Rattle.std.proofs.lemmas.List.Edits.{length-insert, get_or-insert_below, get_or-insert_at, get_or-insert_above}
 use Rattle.imsi.specs.declared.Imsi.{Imsi}
 use Rattle.directory.specs.Order.{rank_of, same, Climbs}
-use Rattle.directory.specs.Search.{Place, Sought, Passed}
+use Rattle.directory.specs.Search.{Place, Sought}
 use Rattle.directory.proofs.Lookups.{same_true, same_ne}
 
 pub passed : (m n : Imsi) → rank_of n < rank_of m → (same m n ≡ false) × (ltb (rank_of m) (rank_of n) ≡ false)

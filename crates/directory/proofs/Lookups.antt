@@ -1,12 +1,12 @@
 -- Looking a record up by IMSI after each change.
-use Rattle.std.proofs.Common.{◌≡◌, ℕ, zero, suc, ◌+◌, ◌*◌, ◌<◌, ◌≤◌, Bool, true, false, cond, ◌&&◌, ◌||◌, eqb, ltb, List, [], ◌∷◌, map, length, get_or, take, drop, set, Some, None, Ok, Err, Option, sym, refl, ap, ◌∙◌, ⊎_elim, arith}
+use Rattle.std.proofs.Common.{◌≡◌, ℕ, zero, suc, Bool, true, false, cond, ltb, List, [], ◌∷◌, map, get_or, set, Some, None, Ok, Err, Option, sym, refl, ap, ◌∙◌, ⊎_elim, arith}
 use Rattle.std.specs.List.{insert}
-use Rattle.std.proofs.lemmas.Bool.{cases_Bool, lt-ltb, le-ltb, ltb-true, ltb-false}
+use Rattle.std.proofs.lemmas.Bool.{cases_Bool, lt-ltb, ltb-true}
 use Rattle.std.proofs.lemmas.Bool.Decides.{nat_tests}
 use Rattle.imsi.specs.declared.Imsi.{Imsi}
 use Rattle.std.specs.Option.{option_map}
 use Rattle.directory.specs.Order.{rank_of, same}
-use Rattle.directory.specs.Search.{Passed, Sought}
+use Rattle.directory.specs.Search.{Sought}
 use Rattle.directory.specs.Lookup.{at, stored}
 
 pub same_self : (m : Imsi) → same m m ≡ true

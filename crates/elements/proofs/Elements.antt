@@ -1,22 +1,19 @@
 -- Each element: where its octets stand it is read, and where it is read its octets stand.
-use Rattle.std.proofs.Common.{◌≡◌, ℕ, ◌+◌, ◌-◌, ◌*◌, ◌/◌, ◌%◌, ◌^◌, ◌<◌, ◌≤◌, Bool, true, false, cond, ◌&&◌, eqb, ltb, leb, List, [], ◌∷◌, ◌++◌, length, get_or, take, drop, Some, None, Ok, Err, Option, Result, sym, refl, ap, ◌∙◌, subst, ⊎_elim, add-zero, div-add-mod', arith}
+use Rattle.std.proofs.Common.{◌≡◌, ℕ, ◌+◌, ◌*◌, ◌/◌, ◌%◌, ◌<◌, ◌≤◌, true, false, List, [], ◌∷◌, ◌++◌, length, get_or, take, drop, Some, Ok, Option, sym, ap, ◌∙◌, add-zero, div-add-mod', arith}
 use native.Mathlib.Nat.{div-div-eq-div-mul}
-use Rattle.std.proofs.lemmas.List.{length-drop, drop_more, drop-drop, length-append, drop_at, take_at, take-append-drop, length-take-le}
-use Rattle.std.proofs.lemmas.Bool.{cond-true, cond-false, cases_Bool, leb-true, and_from, and_parts, le-leb}
+use Rattle.std.proofs.lemmas.List.{length-drop, drop_more, drop-drop, length-append, take_at, take-append-drop, length-take-le}
+use Rattle.std.proofs.lemmas.Bool.{cond-true}
 use Rattle.std.proofs.lemmas.Bool.Decides.{nat_tests}
-use Rattle.imsi.specs.declared.Imsi.{Imsi}
 use Rattle.imsi.specs.Spelling.{imsi_in, imsi_octets, lawful_imsi}
 use Rattle.imsi.proofs.Round.{read_written, written_read, lawful_parts}
 use Rattle.imsi.proofs.Spelt.{length-octets}
-use Rattle.elements.specs.declared.area.LocationArea.{LocationArea}
 use Rattle.elements.specs.declared.element.Element.{Element}
 use Rattle.elements.specs.declared.element.Element.TheVariants as el
-use Rattle.elements.specs.declared.fault.Fault.{Fault}
-use Rattle.elements.specs.Faults.{and_then, lawful_or}
-use Rattle.elements.specs.Reading.{next_is, element_at, coded_at, imsi_at, number_at, tmsi_at, channel_in, channel_at, area_at}
-use Rattle.elements.specs.Spelling.{imsi_element, octet_element, area_element, four_octets, tmsi_element, channel_element}
+use Rattle.elements.specs.Faults.{lawful_or}
+use Rattle.elements.specs.Reading.{next_is, element_at, coded_at, imsi_at, number_at}
+use Rattle.elements.specs.Spelling.{imsi_element, octet_element, four_octets}
 use Rattle.elements.specs.Table.{identifier_of, least_of, most_of}
-use Rattle.elements.proofs.Chains.{then_there, then_ok, same_ok, found, at-drop, drop_size}
+use Rattle.elements.proofs.Chains.{then_there, then_ok, found, at-drop, drop_size}
 
 -- the identifier and the length octet
 pub next_there : (s xs : List ℕ) (at : ℕ) (e : Element) → drop at s ≡ identifier_of e ∷ xs → next_is s at e ≡ true

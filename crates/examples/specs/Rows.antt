@@ -1,7 +1,6 @@
 -- The worked examples as rows of one list.
 use Rattle.std.specs.Prelude.{◌≡◌, ℕ, List, [], ◌∷◌, map, Some, None, Ok, Err, Option}
 use Rattle.std.specs.Option.{option_map}
-use Rattle.imsi.specs.declared.Imsi.{Imsi}
 use Rattle.imsi.specs.Spelling.{imsi_in}
 use Rattle.imsi.specs.Spelling as imsi
 use Rattle.elements.specs.declared.code.GprsDetachType.TheVariants.{ByMobile}

@@ -1,11 +1,10 @@
 -- Reading and spelling a frame undo each other.
-use Rattle.std.proofs.Common.{◌≡◌, ℕ, ◌+◌, ◌<◌, ◌≤◌, true, ◌&&◌, ltb, leb, List, [], ◌∷◌, ◌++◌, length, get_or, drop, Ok, Err, Result, sym, refl, ap, ◌∙◌, subst, arith}
+use Rattle.std.proofs.Common.{◌≡◌, ℕ, ◌+◌, ◌<◌, ◌≤◌, true, ltb, leb, List, ◌++◌, length, get_or, Ok, Result, sym, refl, ap, ◌∙◌, subst, arith}
 use Rattle.std.proofs.lemmas.List.{length-append}
 use Rattle.std.proofs.lemmas.Bool.{and_from, and_parts, le-leb, lt-ltb, leb-true, ltb-true}
 use Rattle.elements.specs.declared.fault.Fault.{Fault}
 use Rattle.elements.specs.Reading.{number_at}
 use Rattle.elements.proofs.Chains.{then_there, then_ok, same_ok}
-use Rattle.messages.specs.declared.message.Message.{Message}
 use Rattle.messages.specs.Lawful.{lawful_message}
 use Rattle.messages.specs.Reading.{message_at}
 use Rattle.messages.specs.Spelling.{octets_of}

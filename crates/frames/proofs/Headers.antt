@@ -1,16 +1,16 @@
 -- What stands in front of the message: lawful headers are read, and what is read is lawful.
-use Rattle.std.proofs.Common.{◌≡◌, ℕ, ◌+◌, ◌<◌, ◌≤◌, Bool, true, false, cond, not, ◌&&◌, eqb, ltb, leb, List, [], ◌∷◌, ◌++◌, length, get_or, take, drop, Ok, Err, Result, sym, refl, ap, ◌∙◌, subst, ⊎_elim, append_assoc, arith}
+use Rattle.std.proofs.Common.{◌≡◌, ℕ, ◌<◌, ◌≤◌, Bool, true, false, cond, not, eqb, ltb, List, ◌∷◌, ◌++◌, length, get_or, drop, Ok, Err, Result, sym, refl, ap, ◌∙◌, ⊎_elim, append_assoc, arith}
 use Rattle.std.proofs.lemmas.List.{drop_more}
-use Rattle.std.proofs.lemmas.Bool.{cond-true, cond-false, and_from, and_parts, not_from_true, not_from_false, not-false, not-true, le-ltb, lt-ltb, ltb-false, eqb-false, ne_eqb, le-leb, leb-true, ltb-true, cases_Bool}
+use Rattle.std.proofs.lemmas.Bool.{cond-true, cond-false, and_from, and_parts, not_from_true, not_from_false, not-false, not-true, le-ltb, ltb-false, eqb-false, ne_eqb, cases_Bool}
 use Rattle.elements.specs.declared.fault.Fault.{Fault}
 use Rattle.elements.specs.declared.node.NodeNumber.{NodeNumber}
 use Rattle.elements.specs.Nodes.{lawful_node, same_node}
 use Rattle.elements.specs.Reading.{number_at}
 use Rattle.elements.specs.Spelling.{four_octets}
-use Rattle.elements.proofs.Chains.{same_ok, fault_ok, at-drop, past}
+use Rattle.elements.proofs.Chains.{same_ok, fault_ok, past}
 use Rattle.elements.proofs.Elements.{number_there, number_read}
 use Rattle.frames.specs.declared.frame.Header.{Header}
-use Rattle.frames.specs.Format.{lawful_nodes, lawful_stamp, header_octets, node_at, header_in, header_read}
+use Rattle.frames.specs.Format.{lawful_nodes, header_octets, node_at, header_in, header_read}
 
 -- a test that is not passed gives no fault
 step : {X : Type 0} (t : Bool) (d : Fault) (y : Result X Fault) (x : X) → cond t (Err d) y ≡ Ok x → (t ≡ false) × (y ≡ Ok x)

@@ -1,7 +1,7 @@
 -- What the frame writer leaves when the message writer has succeeded, and when it has refused.
-use Rattle.std.proofs.Common.{◌≡◌, ℕ, ◌+◌, ◌<◌, ◌≤◌, true, false, cond, not, ◌&&◌, eqb, leb, List, [], ◌∷◌, ◌++◌, length, take, drop, Ok, Err, Result, sym, refl, ap, ◌∙◌, ⊎_elim, append_assoc, arith}
+use Rattle.std.proofs.Common.{◌≡◌, ℕ, ◌+◌, ◌<◌, ◌≤◌, true, ◌&&◌, leb, List, ◌++◌, length, take, drop, Ok, Err, Result, sym, refl, ap, ◌∙◌, ⊎_elim, append_assoc, arith}
 use Rattle.std.proofs.lemmas.List.{length-take-le, drop_at, take_at}
-use Rattle.std.proofs.lemmas.Bool.{cond-true, cond-false, and_from, and_parts, and_left, and_right, not_from_true, ne_eqb, leb-true, cases_Bool, cases_eq}
+use Rattle.std.proofs.lemmas.Bool.{cond-true, cond-false, and_from, and_parts, not_from_true, ne_eqb, leb-true, cases_Bool, cases_eq}
 use Rattle.elements.specs.declared.fault.Fault.{Fault}
 use Rattle.elements.proofs.Chains.{same_ok, fault_ok}
 use Rattle.messages.specs.Lawful.{lawful_message}
@@ -12,7 +12,7 @@ use Rattle.messages.proofs.Sizes.{short}
 use Rattle.frames.specs.declared.frame.Frame.{Frame}
 use Rattle.frames.specs.Format.{lawful_nodes, lawful_frame, header_octets, frame_octets, frame_in}
 use Rattle.frames.specs.Writing.{frame_written, frame_left, ReadBack}
-use Rattle.frames.proofs.Exactly.{Lawful, lawful_parts, lawful_from, frame_size, frame_there}
+use Rattle.frames.proofs.Exactly.{lawful_parts, lawful_from, frame_size, frame_there}
 
 -- what is asked before the message is written
 pub record Asked (f : Frame) : Type 0 where

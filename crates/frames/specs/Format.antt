@@ -1,5 +1,5 @@
 -- Frames: ten octets of nodes and stamps, then one message to the end.
-use Rattle.std.specs.Prelude.{◌≡◌, ℕ, Bool, true, cond, not, ◌&&◌, List, [], ◌∷◌, ◌++◌, length, Ok, Err, Result, ◌==◌, nat_le, nat_lt, slice_index}
+use Rattle.std.specs.Prelude.{◌≡◌, ℕ, Bool, true, cond, not, ◌&&◌, List, ◌∷◌, ◌++◌, length, Ok, Result, ◌==◌, nat_le, nat_lt, slice_index}
 use Rattle.elements.specs.declared.fault.Fault.{Fault}
 use Rattle.elements.specs.declared.fault.FaultKind.TheVariants as kind
 use Rattle.elements.specs.declared.node.NodeNumber.{NodeNumber}

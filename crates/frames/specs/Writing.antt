@@ -1,5 +1,5 @@
 -- What the frame writer answers, and what it leaves in the buffer.
-use Rattle.std.specs.Prelude.{◌≡◌, ℕ, ◌≤◌, cond, not, ◌&&◌, List, ◌++◌, length, take, drop, Ok, Err, Result, ◌==◌, nat_le}
+use Rattle.std.specs.Prelude.{◌≡◌, ℕ, ◌≤◌, cond, not, ◌&&◌, List, ◌++◌, length, take, drop, Ok, Result, ◌==◌, nat_le}
 use Rattle.elements.specs.declared.fault.Fault.{Fault}
 use Rattle.elements.specs.declared.fault.FaultKind.TheVariants as kind
 use Rattle.elements.specs.Faults.{wrong}

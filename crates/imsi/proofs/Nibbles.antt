@@ -1,5 +1,5 @@
 -- Half octets: where each stands, how many there are, and pairing as the inverse of splitting.
-use Rattle.std.proofs.Common.{◌≡◌, ℕ, zero, suc, ◌+◌, ◌*◌, ◌/◌, ◌%◌, ◌<◌, ◌≤◌, List, [], ◌∷◌, ◌++◌, length, get_or, take, refl, ap, arith}
+use Rattle.std.proofs.Common.{◌≡◌, ℕ, zero, suc, ◌+◌, ◌*◌, ◌/◌, ◌%◌, List, [], ◌∷◌, ◌++◌, length, get_or, refl, ap, arith}
 use Rattle.imsi.specs.Halves.{halves, paired, Small}
 
 pub half_low : (os : List ℕ) (k i : ℕ) → k ≡ 2 * i → get_or (halves os) k 0 ≡ get_or os i 0 % 16

@@ -1,5 +1,5 @@
 -- What the writer answers.
-use Rattle.std.specs.Prelude.{◌≡◌, ℕ, ◌+◌, ◌-◌, ◌/◌, cond, List, [], ◌∷◌, ◌++◌, length, take, replicate, Some, None, Option}
+use Rattle.std.specs.Prelude.{◌≡◌, ℕ, ◌+◌, ◌-◌, ◌/◌, cond, ◌++◌, take, replicate, Some, None, Option}
 use Rattle.imsi.specs.declared.Imsi.{Imsi}
 use Rattle.imsi.specs.declared.writing.ImsiOctets.{ImsiOctets}
 use Rattle.imsi.specs.Spelling.{lawful_imsi, imsi_octets, imsi_in}

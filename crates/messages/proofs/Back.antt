@@ -1,10 +1,9 @@
 -- Where a message is read, it is lawful and its octets stand.
-use Rattle.std.proofs.Common.{◌≡◌, ℕ, ◌+◌, ◌<◌, ◌≤◌, true, eqb, ltb, leb, List, [], ◌∷◌, ◌++◌, length, get_or, drop, Some, None, Ok, Err, Option, Result, sym, refl, ap, ◌∙◌, subst, append-nil, arith}
+use Rattle.std.proofs.Common.{◌≡◌, ℕ, ◌+◌, ◌<◌, ◌≤◌, true, List, ◌∷◌, ◌++◌, get_or, drop, Some, None, Ok, Option, sym, refl, ap, ◌∙◌, subst, append-nil, arith}
 use Rattle.std.proofs.lemmas.Bool.{and_from, le-leb, lt-ltb, eq-eqb}
 use Rattle.imsi.specs.declared.Imsi.{Imsi}
 use Rattle.elements.specs.declared.element.Element.{Element}
 use Rattle.elements.specs.declared.element.Element.TheVariants as el
-use Rattle.elements.specs.declared.fault.Fault.{Fault}
 use Rattle.elements.specs.declared.node.NodeNumber.{NodeNumber}
 use Rattle.elements.specs.declared.code.RejectCause.{RejectCause}
 use Rattle.elements.specs.Codes.{cause_in, cause_octet, update_in, update_octet, class_in, class_octet, gprs_detach_in, gprs_detach_octet, imsi_detach_in, imsi_detach_octet, reject_in, entity_in}

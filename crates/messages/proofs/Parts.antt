@@ -1,15 +1,14 @@
 -- The parts that messages share: the type octet, the IMSI, an IMSI with one coded element, and the end.
-use Rattle.std.proofs.Common.{◌≡◌, ℕ, suc, ◌+◌, ◌/◌, ◌<◌, ◌≤◌, true, false, cond, eqb, ltb, List, [], ◌∷◌, ◌++◌, length, get_or, drop, Some, None, Ok, Err, Option, Result, sym, refl, ap, ◌∙◌, subst, ⊎_elim, append-nil, add-zero, arith}
+use Rattle.std.proofs.Common.{◌≡◌, ℕ, ◌+◌, ◌/◌, true, cond, eqb, ltb, List, [], ◌∷◌, ◌++◌, length, get_or, drop, Some, Ok, Option, Result, sym, refl, ap, ◌∙◌, subst, ⊎_elim, append-nil, add-zero, arith}
 use Rattle.std.proofs.lemmas.List.{length-drop, drop_all, drop_more}
 use Rattle.std.proofs.lemmas.Bool.{cond-true, cond-false, lt-ltb, le-ltb, ltb-false, ltb-true, eqb-true, cases_Bool}
 use Rattle.imsi.specs.declared.Imsi.{Imsi}
 use Rattle.imsi.proofs.Spelt.{length-octets}
 use Rattle.elements.specs.declared.element.Element.{Element}
 use Rattle.elements.specs.declared.fault.Fault.{Fault}
-use Rattle.elements.specs.Faults.{and_then}
 use Rattle.elements.specs.Reading.{coded_at, imsi_at}
 use Rattle.elements.specs.Spelling.{imsi_element, octet_element}
-use Rattle.elements.specs.Table.{identifier_of, least_of, most_of}
+use Rattle.elements.specs.Table.{least_of, most_of}
 use Rattle.elements.proofs.Chains.{then_there, then_ok, same_ok, fault_ok, at-drop, drop_size, past}
 use Rattle.elements.proofs.Elements.{coded_there, coded_read, imsi_there, imsi_read}
 use Rattle.messages.specs.declared.message.Message.{Message}

@@ -1,26 +1,24 @@
 -- Where the octets of a lawful message stand, it is read.
-use Rattle.std.proofs.Common.{◌≡◌, ℕ, ◌+◌, ◌<◌, ◌≤◌, true, eqb, ltb, leb, List, [], ◌∷◌, ◌++◌, length, get_or, drop, Some, None, Ok, Err, Option, Result, sym, refl, ap, ◌∙◌, append_assoc, append-nil, arith}
+use Rattle.std.proofs.Common.{◌≡◌, ℕ, ◌+◌, ◌<◌, ◌≤◌, true, List, [], ◌∷◌, ◌++◌, length, get_or, drop, Some, None, Ok, Option, sym, refl, ap, ◌∙◌, append-nil, arith}
 use Rattle.std.proofs.lemmas.Bool.{and_parts, leb-true, ltb-true, eqb-true}
 use Rattle.imsi.specs.declared.Imsi.{Imsi}
 use Rattle.elements.specs.declared.area.LocationArea.{LocationArea}
 use Rattle.elements.specs.declared.code.Class.{Class}
 use Rattle.elements.specs.declared.code.UpdateType.{UpdateType}
-use Rattle.elements.specs.declared.element.Element.{Element}
 use Rattle.elements.specs.declared.element.Element.TheVariants as el
 use Rattle.elements.specs.declared.node.NodeNumber.{NodeNumber}
 use Rattle.elements.specs.Nodes.{lawful_node}
 use Rattle.elements.specs.Codes.{cause_in, cause_octet, update_in, update_octet, class_in, class_octet, gprs_detach_in, gprs_detach_octet, imsi_detach_in, imsi_detach_octet, reject_in, entity_in}
 use Rattle.elements.specs.Spelling.{imsi_element, octet_element, area_element, tmsi_element, channel_element}
-use Rattle.elements.specs.Table.{least_of, most_of}
 use Rattle.elements.proofs.Areas.{area_there}
 use Rattle.elements.proofs.Chains.{then_there, past}
 use Rattle.elements.proofs.Codes.{cause_there, update_there, class_there, gprs_there, imsi_there, reject_there, entity_there}
 use Rattle.elements.proofs.Elements.{coded_there}
-use Rattle.elements.proofs.Optional.{tmsi_there, channel_there, tmsi_size, channel_size}
+use Rattle.elements.proofs.Optional.{tmsi_there, channel_there}
 use Rattle.messages.specs.declared.message.Message.{Message}
 use Rattle.messages.specs.declared.message.Message.TheVariants.{Paging, PagingFailure, MobileStatus, LuRequest, LuAccept, LuReject, Reset, ResetAcknowledge, GprsDetachIndication, GprsDetachAcknowledge, ImsiDetachIndication, ImsiDetachAcknowledge}
 use Rattle.messages.specs.Lawful.{lawful_mobile, lawful_tmsi, lawful_channel, lawful_area, lawful_reject, lawful_message}
-use Rattle.messages.specs.Reading.{after_imsi, after_tmsi, after_channel, imsi_and_at, paging_at, lu_request_at, lu_accept_at, entity_at, message_at}
+use Rattle.messages.specs.Reading.{after_imsi, after_tmsi, after_channel, paging_at, lu_request_at, lu_accept_at, entity_at, message_at}
 use Rattle.messages.specs.Spelling.{octets_of}
 use Rattle.messages.proofs.Parts.{type_there, mobile_there, mobile_past, imsi_and_there, end_there}
 

@@ -1,5 +1,5 @@
 -- Which messages can be written.
-use Rattle.std.specs.Prelude.{ℕ, Bool, true, not, ◌&&◌, length, Some, None, Option, ◌==◌, nat_le, nat_lt}
+use Rattle.std.specs.Prelude.{ℕ, Bool, true, ◌&&◌, length, Some, None, Option, ◌==◌, nat_le, nat_lt}
 use Rattle.imsi.specs.declared.Imsi.{Imsi}
 use Rattle.imsi.specs.Spelling.{lawful_imsi}
 use Rattle.elements.specs.declared.area.LocationArea.{LocationArea}

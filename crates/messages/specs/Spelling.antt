@@ -1,5 +1,5 @@
 -- The octets that spell a message: its type, then its elements in order.
-use Rattle.std.specs.Prelude.{◌≡◌, ℕ, true, List, [], ◌∷◌, ◌++◌}
+use Rattle.std.specs.Prelude.{◌≡◌, ℕ, true, List, ◌∷◌, ◌++◌}
 use Rattle.elements.specs.declared.element.Element.TheVariants as el
 use Rattle.elements.specs.Codes.{cause_octet, update_octet, class_octet, gprs_detach_octet, imsi_detach_octet}
 use Rattle.elements.specs.Spelling.{imsi_element, octet_element, area_element, tmsi_element, channel_element}

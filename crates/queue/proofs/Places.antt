@@ -1,5 +1,5 @@
 -- The frame at the place of the first for a node is that frame, and without it the others are left.
-use Rattle.std.proofs.Common.{◌≡◌, ℕ, ◌+◌, ◌<◌, ◌≤◌, Bool, true, false, cond, List, [], ◌∷◌, length, get_or, Some, None, Option, refl, ap, one-add, arith}
+use Rattle.std.proofs.Common.{◌≡◌, ℕ, ◌+◌, ◌<◌, ◌≤◌, Bool, true, false, cond, List, [], ◌∷◌, length, get_or, Some, None, refl, ap, one-add, arith}
 use Rattle.std.specs.List.{remove}
 use Rattle.elements.specs.declared.node.NodeNumber.{NodeNumber}
 use Rattle.queue.specs.Lists.{is_for, place, first_for, without_first}

@@ -1,5 +1,5 @@
 -- The newest frame for a node: found, or not there.
-use Rattle.std.proofs.Common.{◌≡◌, ℕ, zero, suc, ◌<◌, Bool, true, false, cond, List, [], ◌∷◌, length, get_or, drop, Some, None, Option, refl, ap, arith}
+use Rattle.std.proofs.Common.{◌≡◌, ℕ, zero, suc, ◌<◌, Bool, true, false, cond, List, [], ◌∷◌, length, get_or, drop, Some, None, refl, ap, arith}
 use Rattle.std.specs.List.{remove}
 use Rattle.elements.specs.declared.node.NodeNumber.{NodeNumber}
 use Rattle.queue.specs.Lists.{is_for}

@@ -1,9 +1,8 @@
 -- What is written stands at the front of the buffer.
-use Rattle.std.proofs.Common.{◌≡◌, ℕ, ◌+◌, ◌<◌, ◌≤◌, true, false, cond, not, ◌&&◌, eqb, leb, List, ◌++◌, length, take, drop, Ok, Err, Result, sym, refl, ap, ◌∙◌, ⊎_elim, arith}
+use Rattle.std.proofs.Common.{◌≡◌, ℕ, ◌<◌, not, eqb, List, length, take, drop, Ok, sym, ap, ◌∙◌, ⊎_elim, arith}
 use Rattle.std.proofs.lemmas.List.{take_at}
 use Rattle.std.proofs.lemmas.Bool.{cond-true, cond-false, and_from, not-false, eqb-false, cases_Bool, cases_eq}
 use Rattle.elements.proofs.Chains.{fault_ok}
-use Rattle.messages.specs.Writing.{buffer_size}
 use Rattle.messages.proofs.Exactly.{written}
 use Rattle.frames.specs.declared.frame.Frame.{Frame}
 use Rattle.frames.specs.Format.{lawful_nodes, frame_octets}

@@ -1,7 +1,6 @@
 -- Frames that an end sends: each takes the next stamp.
 use Rattle.std.specs.Prelude.{ℕ, ◌+◌, Bool, not, List, [], ◌∷◌, map, nat_le}
 use Rattle.elements.specs.declared.node.NodeNumber.{NodeNumber}
-use Rattle.messages.specs.declared.message.Message.{Message}
 use Rattle.frames.specs.declared.frame.Frame.{Frame}
 use Rattle.frames.specs.Format.{frame_octets}
 use Rattle.carrier.specs.Chains.{PutsAll}

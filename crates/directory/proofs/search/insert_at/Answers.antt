@@ -1,4 +1,4 @@
-use Rattle.std.proofs.Common.{◌≡◌, ◌<◌, ◌≤◌, length, sym, subst, arith}
+use Rattle.std.proofs.Common.{◌≡◌, arith}
 use Rattle.directory.proofs.Shift.{shift_low, shift_high, shifted}
 use Rattle.directory.proofs.search.insert_at.Goals as goal
 

@@ -1,5 +1,5 @@
 use native.Mathlib.Nat.{sub-zero}
-use Rattle.std.proofs.Common.{◌≡◌, get_or, take, Some, Ok, Err, sym, ap, ◌∙◌, subst}
+use Rattle.std.proofs.Common.{get_or, take, Some, Ok, Err, sym, ap, ◌∙◌, subst}
 use Rattle.directory.specs.Order.{Climbs}
 use Rattle.directory.specs.Search.{Place}
 use Rattle.directory.proofs.Lookups.{at_found, at_missing}

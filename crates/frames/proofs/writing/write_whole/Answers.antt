@@ -1,8 +1,8 @@
-use Rattle.std.proofs.Common.{◌≡◌, ◌<◌, ◌++◌, length, drop, sym, ap, ◌∙◌, arith, rules}
+use Rattle.std.proofs.Common.{◌++◌, length, drop, sym, ap, ◌∙◌, arith, rules}
 use Rattle.std.proofs.lemmas.Bool.{leb-true}
 use Rattle.messages.specs.Writing.{buffer_size}
 use Rattle.messages.proofs.Exactly.{written}
-use Rattle.frames.proofs.Written.{Asked, Done, done_ok, done_err}
+use Rattle.frames.proofs.Written.{Asked, done_ok, done_err}
 use Rattle.frames.proofs.writing.write_whole.Goals as goal
 
 pub put_front-requires : goal.put_front-requires

@@ -1,8 +1,7 @@
-use Rattle.std.proofs.Common.{◌≡◌, ◌+◌, ◌-◌, ◌*◌, ◌/◌, ◌%◌, ◌<◌, ◌≤◌, length, get_or, drop, sym, refl, ap, ◌∙◌, arith}
+use Rattle.std.proofs.Common.{◌≡◌, ◌+◌, ◌-◌, ◌*◌, ◌/◌, ◌%◌, get_or, drop, sym, refl, ap, ◌∙◌, arith}
 use Rattle.std.proofs.lemmas.List.{at_drop_all, length-take}
 use Rattle.imsi.specs.Spelling.{valued}
 use Rattle.imsi.proofs.Nibbles.{half_low, half_high}
-use Rattle.imsi.proofs.Values.{room}
 use Rattle.imsi.proofs.Octets.{ahead, digit_on, digit_off, pair_on, pair_off, pair_grown, pair_room}
 use Rattle.imsi.proofs.halves.value_in.Goals as goal
 

@@ -1,4 +1,4 @@
-use Rattle.std.proofs.Common.{◌+◌, ◌/◌, ◌≤◌, ap, ◌∙◌, arith}
+use Rattle.std.proofs.Common.{◌+◌, ◌/◌, ap, ◌∙◌}
 use Rattle.imsi.proofs.Spelt.{octets_filled}
 use Rattle.imsi.proofs.Round.{lawful_parts}
 use Rattle.imsi.proofs.writing.spelling.Goals as goal

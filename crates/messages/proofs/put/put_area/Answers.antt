@@ -1,4 +1,4 @@
-use Rattle.std.proofs.Common.{◌≡◌, [], ◌∷◌, ◌++◌, length, subst, arith, rules}
+use Rattle.std.proofs.Common.{◌≡◌, ◌∷◌, length, subst, arith, rules}
 use Rattle.messages.specs.Writing.{Wrote}
 use Rattle.messages.proofs.Buffers.{wrote_more}
 use Rattle.messages.proofs.put.put_area.Goals as goal

@@ -1,4 +1,4 @@
-use Rattle.std.proofs.Common.{◌≡◌, ℕ, ◌-◌, ◌≤◌, List, [], ◌∷◌, ◌++◌, length, take, Some, None, sym, ap, ◌∙◌, subst, arith, rules}
+use Rattle.std.proofs.Common.{◌≡◌, ℕ, ◌-◌, List, ◌∷◌, length, take, ap, ◌∙◌, subst, arith}
 use Rattle.imsi.proofs.Round.{shown, lawful_parts}
 use Rattle.imsi.proofs.Spelt.{length-octets}
 use Rattle.messages.specs.Writing.{Wrote}

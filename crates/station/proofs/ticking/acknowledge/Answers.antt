@@ -1,4 +1,4 @@
-use Rattle.std.proofs.Common.{◌≡◌, ◌+◌, length, sym, refl, ap, ◌∙◌, subst}
+use Rattle.std.proofs.Common.{◌+◌, length, sym, ap, ◌∙◌, subst}
 use Rattle.station.specs.Sends.{Sent}
 use Rattle.station.specs.Ticks.{acknowledging}
 use Rattle.station.proofs.Chained.{own_lawful}

@@ -1,5 +1,5 @@
 use Rattle.std.proofs.Common.{refl, arith}
-use Rattle.gate.proofs.Notes.{renewed, stale, zero_stamp, full, entered}
+use Rattle.gate.proofs.Notes.{renewed, stale, full, entered}
 use Rattle.gate.proofs.pairs.Pairs.note.Goals as goal
 
 pub returns-then-self-i : goal.returns-then-self-i

@@ -1,8 +1,8 @@
-use Rattle.std.proofs.Common.{◌<◌, ◌≤◌, length, vec_items, refl, arith}
+use Rattle.std.proofs.Common.{◌≤◌, length, refl, arith}
 use Rattle.std.proofs.lemmas.List.{length-map}
 use Rattle.std.proofs.lemmas.Bool.{cond_above}
 use Rattle.queue.specs.Model.{frames_of}
-use Rattle.queue.proofs.Steps.{put_some, put_none}
+use Rattle.queue.proofs.Steps.{put_some}
 use Rattle.queue.proofs.carrying.QueueCarrier.put.Goals as goal
 
 pub returns-in-Some : goal.returns-in-Some

@@ -1,4 +1,4 @@
-use Rattle.std.proofs.Common.{◌≡◌, vec_items, ◌∙◌, arith, rules}
+use Rattle.std.proofs.Common.{vec_items, ◌∙◌, arith}
 use Rattle.std.proofs.lemmas.List.{get_or_default}
 use Rattle.slip.proofs.Scripts.{next_octet, next_left, none_next, none_left}
 use Rattle.slip.proofs.script.Script.next.Goals as goal
