@@ -1,6 +1,6 @@
 -- Each code is read as the case that is written so, and only as that.
 use Rattle.std.proofs.Common.{◌≡◌, ℕ, ◌≤◌, true, eqb, Some, None, Option, sym, refl, ap, ◌∙◌, ⊎_elim, arith}
-use Rattle.std.proofs.lemmas.Bool.{cond-true, cond-false, eqb-true, eqb-false, ne_eqb, cases_Bool}
+use Rattle.std.proofs.lemmas.Bool.{cond-true, cond-false, eqb-false, ne_eqb, cases_Bool}
 use Rattle.elements.specs.declared.code.Cause.{Cause}
 use Rattle.elements.specs.declared.code.Cause.TheVariants as cause
 use Rattle.elements.specs.declared.code.UpdateType.{UpdateType}
@@ -13,7 +13,7 @@ use Rattle.elements.specs.declared.code.ImsiDetachType.{ImsiDetachType}
 use Rattle.elements.specs.declared.code.ImsiDetachType.TheVariants as imsi
 use Rattle.elements.specs.declared.code.RejectCause.{RejectCause}
 use Rattle.elements.specs.declared.node.NodeNumber.{NodeNumber}
-use Rattle.elements.specs.Codes.{either_in, cause_octet, cause_in, update_octet, update_in, class_octet, class_in, gprs_detach_octet, gprs_detach_in, imsi_detach_octet, imsi_detach_in, reject_in, entity_in}
+use Rattle.elements.specs.Codes.{cause_octet, cause_in, update_octet, update_in, class_octet, class_in, gprs_detach_octet, gprs_detach_in, imsi_detach_octet, imsi_detach_in, reject_in, entity_in}
 use Rattle.elements.specs.Nodes.{lawful_node}
 
 same_some : {X : Type 0} (x y : X) → ◌≡◌ {A = Option X} (Some x) (Some y) → x ≡ y
@@ -22,48 +22,21 @@ same_some x y e = cc
 none_some : {X Y : Type 0} (x : X) → ◌≡◌ {A = Option X} None (Some x) → Y
 none_some x e = let z : ◌≡◌ {A = ℕ} 0 1 = cc in absurd (omega arith)
 
--- of two cases, whichever octets they have
-either_back : {X : Type 0} (octet : X → ℕ) (a b : X) (n : ℕ) (x : X) → either_in octet a b n ≡ Some x → octet x ≡ n
-either_back octet a b n x e =
-    ⊎_elim
-    (λ t. ap octet (sym (same_some a x (sym (cond-true _ _ _ t) ∙ e))) ∙ sym (eqb-true n (octet a) t))
-    (λ f. let e1 = sym (cond-false _ _ _ f) ∙ e in
-    ⊎_elim
-    (λ t. ap octet (sym (same_some b x (sym (cond-true _ _ _ t) ∙ e1))) ∙ sym (eqb-true n (octet b) t))
-    (λ g. none_some x (sym (cond-false _ _ _ g) ∙ e1))
-    (cases_Bool (eqb n (octet b))))
-    (cases_Bool (eqb n (octet a)))
-
-pub cause_back : (n : ℕ) (x : Cause) → cause_in n ≡ Some x → cause_octet x ≡ n
-cause_back = either_back cause_octet cause.NotAttached cause.MovedToAnotherVlr
-
 pub cause_there : (x : Cause) → cause_in (cause_octet x) ≡ Some x
 cause_there cause.NotAttached = refl
 cause_there cause.MovedToAnotherVlr = refl
-
-pub update_back : (n : ℕ) (x : UpdateType) → update_in n ≡ Some x → update_octet x ≡ n
-update_back = either_back update_octet update.ImsiAttach update.Normal
 
 pub update_there : (x : UpdateType) → update_in (update_octet x) ≡ Some x
 update_there update.ImsiAttach = refl
 update_there update.Normal = refl
 
-pub class_back : (n : ℕ) (x : Class) → class_in n ≡ Some x → class_octet x ≡ n
-class_back = either_back class_octet class.A class.B
-
 pub class_there : (x : Class) → class_in (class_octet x) ≡ Some x
 class_there class.A = refl
 class_there class.B = refl
 
-pub gprs_back : (n : ℕ) (x : GprsDetachType) → gprs_detach_in n ≡ Some x → gprs_detach_octet x ≡ n
-gprs_back = either_back gprs_detach_octet gprs.ByNetwork gprs.ByMobile
-
 pub gprs_there : (x : GprsDetachType) → gprs_detach_in (gprs_detach_octet x) ≡ Some x
 gprs_there gprs.ByNetwork = refl
 gprs_there gprs.ByMobile = refl
-
-pub imsi_back : (n : ℕ) (x : ImsiDetachType) → imsi_detach_in n ≡ Some x → imsi_detach_octet x ≡ n
-imsi_back = either_back imsi_detach_octet imsi.Unacknowledged imsi.Acknowledged
 
 pub imsi_there : (x : ImsiDetachType) → imsi_detach_in (imsi_detach_octet x) ≡ Some x
 imsi_there imsi.Unacknowledged = refl

@@ -1,6 +1,7 @@
 pub mod Faults
 pub mod Nodes
 pub mod Codes
+pub mod Backs
 pub mod Table
 pub mod Reading
 pub mod Spelling

@@ -1,7 +1,7 @@
 // Contents of one octet: which octet stands for which case.
 ghost use Rattle.std.specs.Prelude.{◌≡◌, ℕ, if◌then◌else◌, Some, None, Option, nat_eq};
 ghost use Rattle.elements.specs.Codes.{cause_octet, cause_in, update_octet, update_in, class_octet, class_in, gprs_detach_octet, gprs_detach_in, imsi_detach_octet, imsi_detach_in, reject_in, entity_in};
-ghost use Rattle.std.proofs.Common.{rules};
+ghost use Rattle.elements.specs.Backs.{cause_back, update_back, class_back, gprs_back, imsi_back, reject_number_back, node_number_back};
 
 use crate::node::NodeNumber;
 
@@ -44,7 +44,7 @@ impl Coded for Cause {
 
     ghost value_in = { cause_in };
 
-    ghost back = { Prim.search rules };
+    ghost back = { cause_back };
 
     fn octet(self) -> u8 {
         match self {
@@ -69,7 +69,7 @@ impl Coded for UpdateType {
 
     ghost value_in = { update_in };
 
-    ghost back = { Prim.search rules };
+    ghost back = { update_back };
 
     fn octet(self) -> u8 {
         match self {
@@ -95,7 +95,7 @@ impl Coded for Class {
 
     ghost value_in = { class_in };
 
-    ghost back = { Prim.search rules };
+    ghost back = { class_back };
 
     fn octet(self) -> u8 {
         match self {
@@ -120,7 +120,7 @@ impl Coded for GprsDetachType {
 
     ghost value_in = { gprs_detach_in };
 
-    ghost back = { Prim.search rules };
+    ghost back = { gprs_back };
 
     fn octet(self) -> u8 {
         match self {
@@ -146,7 +146,7 @@ impl Coded for ImsiDetachType {
 
     ghost value_in = { imsi_detach_in };
 
-    ghost back = { Prim.search rules };
+    ghost back = { imsi_back };
 
     fn octet(self) -> u8 {
         match self {
@@ -175,7 +175,7 @@ impl Coded for RejectCause {
 
     ghost value_in = { reject_in };
 
-    ghost back = { Prim.search rules };
+    ghost back = { reject_number_back };
 
     fn octet(self) -> u8 {
         self.number
@@ -196,7 +196,7 @@ impl Coded for NodeNumber {
 
     ghost value_in = { entity_in };
 
-    ghost back = { Prim.search rules };
+    ghost back = { node_number_back };
 
     fn octet(self) -> u8 {
         self.number

@@ -1,7 +1,8 @@
 -- The stamps last given: a put leaves them, and a take moves that of the pair of what it gives.
 use Rattle.std.specs.Prelude.{◌≡◌, ℕ, ◌<◌, Bool, true, false, cond, ◌&&◌, List, [], ◌∷◌, ◌++◌, length, Some, None, Option, ◌≢◌, nat_lt, refl}
-use Rattle.std.proofs.Common.{sym, ap, subst, ◌∙◌, ⊎_elim, arith}
-use Rattle.std.proofs.lemmas.Bool.{ltb-true, and_parts, and_from, cases_Bool}
+use Rattle.std.proofs.Common.{sym, ap, subst, ◌∙◌, ⊎_elim}
+use Rattle.std.proofs.lemmas.Bool.{ltb-true, and_parts, and_from, cases_Bool, false≢true}
+use Rattle.std.proofs.lemmas.Option.{none-some, same_Some}
 use Rattle.elements.specs.declared.node.NodeNumber.{NodeNumber}
 use Rattle.elements.specs.Nodes.{same_node}
 use Rattle.carrier.specs.declared.datagram.Datagram.{Datagram}
@@ -51,22 +52,26 @@ is_own e = and_from _ _ (own_node (source_of (held_by e))) (own_node (destinatio
 is_other : (a b u v : NodeNumber) → (u ≡ a → v ≢ b) → (same_node a u && same_node b v) ≡ false
 is_other a b u v ne = ⊎_elim (λ t. let p = and_parts (same_node a u) (same_node b v) t in absurd (ne (sym (same_node_lem a u p.0)) (sym (same_node_lem b v p.1)))) (λ f. f) (cases_Bool (same_node a u && same_node b v))
 
+any_behind : (b r : Bool) → r ≡ true → cond b true r ≡ true
+any_behind true r t = refl
+any_behind false r t = t
+
 -- what is found is of a pair that is there
 first_by : (b : Bool) (p : Slot → Bool) (e : Slot) (es : List Slot) (f : List ℕ) → (Some f ≡ first p es → any (pair_of f) es ≡ true) → Some f ≡ cond b (Some (held_by e)) (first p es) → any (pair_of f) (e ∷ es) ≡ true
 first_by true p e es f rest q =
-    let s : f ≡ held_by e = cc in
+    let s = same_Some f (held_by e) q in
     subst (λ z. any (pair_of z) (e ∷ es) ≡ true) (sym s) (ap (λ b. cond b true (any (pair_of (held_by e)) es)) (is_own e))
-first_by false p e es f rest q = grind (arith, rest q)
+first_by false p e es f rest q = any_behind (pair_of f e) (any (pair_of f) es) (rest q)
 
 first_there : (p : Slot → Bool) (es : List Slot) (f : List ℕ) → Some f ≡ first p es → any (pair_of f) es ≡ true
-first_there p [] f q = let z : ◌≡◌ {A = ℕ} 0 1 = cc in absurd (omega arith)
+first_there p [] f q = absurd (none-some f (sym q))
 first_there p (e ∷ es) f q = first_by (p e) p e es f (first_there p es f) q
 
 apart_by : (b : Bool) (e : Slot) (es : List Slot) (f : List ℕ) → pair_of f e ≡ b → any (pair_of f) es ≡ true → any (pair_of (held_by e)) es ≡ false → b ≡ false
 apart_by true e es f t y n =
     let a = and_parts _ _ t in
     let s : any (pair_of (held_by e)) es ≡ any (pair_of f) es = ap (λ z. any (is_of z (destination_of (held_by e))) es) (same_node_lem _ _ a.0) ∙ ap (λ z. any (is_of (source_of f) z) es) (same_node_lem _ _ a.1) in
-    cc
+    sym y ∙ sym s ∙ n
 apart_by false e es f t y n = refl
 
 -- a take moves the pair of what it gives
@@ -74,9 +79,9 @@ abbrev Given : List Slot → NodeNumber → List ℕ → Type 0
 Given es n f = Some f ≡ first (waits_for n) es → distinct es ≡ true → Moves (last_given_in es) (Some f) (last_given_in (change (waits_for n) emptied es))
 
 given_by : (b c : Bool) (n : NodeNumber) (e : Slot) (es : List Slot) (f : List ℕ) → waits_for n e ≡ b → any (pair_of (held_by e)) es ≡ c → Given es n f → Some f ≡ cond b (Some (held_by e)) (first (waits_for n) es) → cond c false (distinct es) ≡ true → Moves (last_given_in (e ∷ es)) (Some f) (last_given_in (cond b (emptied e ∷ es) (e ∷ change (waits_for n) emptied es)))
-given_by b true n e es f t u rest q w = let z : ◌≡◌ {A = ℕ} 0 1 = cc in absurd (omega arith)
+given_by b true n e es f t u rest q w = absurd (false≢true w)
 given_by true false n e es f t u rest q w =
-    let s : f ≡ held_by e = cc in
+    let s = same_Some f (held_by e) q in
     let a = and_parts _ _ t in
     let o = held_by e in
     let m : Moves (last_given_in (e ∷ es)) (Some o) (last_given_in (emptied e ∷ es)) = (
@@ -94,11 +99,11 @@ given_by false false n e es f t u rest q w =
     )
 
 gave : (es : List Slot) (n : NodeNumber) (f : List ℕ) → Given es n f
-gave [] n f q w = let z : ◌≡◌ {A = ℕ} 0 1 = cc in absurd (omega arith)
+gave [] n f q w = absurd (none-some f (sym q))
 gave (e ∷ es) n f q w = given_by (waits_for n e) (any (pair_of (held_by e)) es) n e es f refl refl (gave es n f) q w
 
 none_left_by : (b : Bool) (n : NodeNumber) (e : Slot) (es : List Slot) → (None ≡ first (waits_for n) es → change (waits_for n) emptied es ≡ es) → None ≡ cond b (Some (held_by e)) (first (waits_for n) es) → cond b (emptied e ∷ es) (e ∷ change (waits_for n) emptied es) ≡ e ∷ es
-none_left_by true n e es rest q = let z : ◌≡◌ {A = ℕ} 0 1 = cc in absurd (omega arith)
+none_left_by true n e es rest q = absurd (none-some (held_by e) q)
 none_left_by false n e es rest q = ap (λ z. e ∷ z) (rest q)
 
 none_left : (n : NodeNumber) (es : List Slot) → None ≡ first (waits_for n) es → change (waits_for n) emptied es ≡ es

@@ -1,8 +1,7 @@
 -- No two slots are of one pair: neither a put nor a take changes that.
 use Rattle.std.specs.Prelude.{◌≡◌, ℕ, Bool, true, false, cond, ◌&&◌, List, [], ◌∷◌, ◌++◌, length, ◌==◌, nat_lt, refl}
-use Rattle.std.proofs.Common.{sym, ap, ◌∙◌, arith}
-use Rattle.std.proofs.lemmas.Bool.{eqb-true, eq-eqb, and_parts}
-use Rattle.std.proofs.lemmas.Bool.Decides.{nat_tests}
+use Rattle.std.proofs.Common.{sym, ap, ◌∙◌, ⊎_elim}
+use Rattle.std.proofs.lemmas.Bool.{eqb-true, eqb-false, eq-eqb, ne_eqb, and_parts, cases_Bool, false≢true, true≢false}
 use Rattle.elements.specs.declared.node.NodeNumber.{NodeNumber}
 use Rattle.elements.specs.Nodes.{same_node}
 use Rattle.carrier.specs.declared.datagram.Datagram.{Datagram}
@@ -57,16 +56,23 @@ pub renewed_keeps : (d : Datagram) (e : Slot) → pair_of (octets_in d) e ≡ tr
 renewed_keeps d e t = renewed_by (nat_lt (stamp_of (held_by e)) (stamp_of (octets_in d))) d e t
 
 -- a slot of a new pair behind them
+eqb_swap : (a b : ℕ) → (a == b) ≡ (b == a)
+eqb_swap a b =
+    ⊎_elim
+    (λ t. t ∙ sym (eq-eqb b a (sym (eqb-true a b t))))
+    (λ f. f ∙ sym (ne_eqb b a (λ e. eqb-false a b f (sym e))))
+    (cases_Bool (a == b))
+
 swapped : (a b c d : ℕ) (t : (a == c && b == d) ≡ false) → (c == a && d == b) ≡ false
-swapped a b c d t = grind (arith, nat_tests)
+swapped a b c d t = ap (λ x. x && (d == b)) (eqb_swap c a) ∙ ap (λ x. (a == c) && x) (eqb_swap d b) ∙ t
 
 any_more : (a b : NodeNumber) (x : Slot) (es : List Slot) → is_of a b x ≡ false → any (is_of a b) (es ++ x ∷ []) ≡ any (is_of a b) es
 any_more a b x [] n = ap (λ z. cond z true false) n
 any_more a b x (e ∷ es) n = ap (λ z. cond (is_of a b e) true z) (any_more a b x es n)
 
 new_by : (b c : Bool) (x e : Slot) (es : List Slot) → pair_of (held_by x) e ≡ b → any (pair_of (held_by e)) es ≡ c → cond b true (any (pair_of (held_by x)) es) ≡ false → cond c false (distinct es) ≡ true → (any (pair_of (held_by x)) es ≡ false → distinct es ≡ true → distinct (es ++ x ∷ []) ≡ true) → distinct (e ∷ es ++ x ∷ []) ≡ true
-new_by true c x e es t u n q rest = let z : ◌≡◌ {A = ℕ} 0 1 = cc in absurd (omega arith)
-new_by false true x e es t u n q rest = let z : ◌≡◌ {A = ℕ} 0 1 = cc in absurd (omega arith)
+new_by true c x e es t u n q rest = absurd (true≢false n)
+new_by false true x e es t u n q rest = absurd (false≢true q)
 new_by false false x e es t u n q rest =
     let a = source_of (held_by e) in
     let b = destination_of (held_by e) in

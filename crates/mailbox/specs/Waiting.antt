@@ -1,7 +1,9 @@
 -- What a mailbox does is what a carrier may do.
 use Rattle.std.specs.Prelude.{◌≡◌, ℕ, Bool, true, false, cond, ◌⊎◌, List, [], ◌∷◌, ◌++◌, length, is_ok, Some, None, Ok, Err, Option, Result, nat_lt, refl}
-use Rattle.std.proofs.Common.{sym, subst, ◌∙◌, inl, inr, ⊎_elim, arith}
-use Rattle.std.proofs.lemmas.Bool.{and_parts, le-ltb}
+use Rattle.std.proofs.Common.{sym, subst, ◌∙◌, inl, inr, ⊎_elim}
+use Rattle.std.proofs.Math.Nat.{le_refl}
+use Rattle.std.proofs.lemmas.Bool.{and_parts, le-ltb, false≢true}
+use Rattle.std.proofs.lemmas.Option.{none-some, same_Some}
 use Rattle.elements.specs.declared.fault.Fault.{Fault}
 use Rattle.elements.specs.declared.node.NodeNumber.{NodeNumber}
 use Rattle.elements.proofs.Chains.{then_ok}
@@ -59,7 +61,7 @@ noted_by false false d es x h = inl h
 -- a frame has 11 to 64 octets
 read_frame_lem : (r : Result Frame Fault) → is_ok r ≡ true → (f : Frame) × (r ≡ Ok f)
 read_frame_lem (Ok f) t = (f, refl)
-read_frame_lem (Err e) t = let z : ◌≡◌ {A = ℕ} 0 1 = cc in absurd (omega arith)
+read_frame_lem (Err e) t = absurd (false≢true t)
 
 frame_sized : (o : List ℕ) → is_frame o ≡ true → Sized o
 frame_sized o t =
@@ -69,8 +71,8 @@ frame_sized o t =
     (l.low, l.high)
 
 legible_by : (b : Bool) (o g : List ℕ) → is_frame o ≡ b → Some g ≡ cond b (Some o) None → (g ≡ o) × Sized o
-legible_by true o g t e = let s : g ≡ o = cc in (s, frame_sized o t)
-legible_by false o g t e = let z : ◌≡◌ {A = ℕ} 0 1 = cc in absurd (omega arith)
+legible_by true o g t e = (same_Some g o e, frame_sized o t)
+legible_by false o g t e = absurd (none-some g (sym e))
 
 arrived_in : (r : Option Datagram) (o : List ℕ) (es : List Slot) (x : List ℕ) → carried r ≡ legible o → In x (held_in (arrived r es)) → In x (held_in es) ⊎ ((x ≡ o) × Sized o)
 arrived_in None o es x e h = inl h
@@ -99,7 +101,7 @@ gives n (e ∷ es) = gives_by (waits_for n e) n e es refl (gives n es)
 
 leaves_by : (b : Bool) (n : NodeNumber) (e : Slot) (es : List Slot) (x : List ℕ) → (In x (held_in (change (waits_for n) emptied es)) → In x (held_in es)) → In x (held_in (cond b (emptied e ∷ es) (e ∷ change (waits_for n) emptied es))) → In x (held_in (e ∷ es))
 leaves_by true n e es x rest h =
-    let k : waits (emptied e) ≡ false = le-ltb _ _ (omega arith) in
+    let k : waits (emptied e) ≡ false = le-ltb _ _ (le_refl _) in
     behind_by (waits e) x (held_by e) (held_in es) (subst (λ b. In x (cond b (held_by e ∷ held_in es) (held_in es))) k h)
 leaves_by false n e es x rest h = ⊎_elim (λ i. i) absurd (step_by (waits e) x (held_by e) (held_in (change (waits_for n) emptied es)) (held_in es) ⊥ (λ i. inl (rest i)) h)
 
