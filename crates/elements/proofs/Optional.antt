@@ -1,6 +1,7 @@
 -- Elements that may be absent: TMSI and channel. Absent means that another identifier, or none, is next.
 use Rattle.std.proofs.Common.{◌≡◌, ℕ, ◌+◌, ◌<◌, ◌≤◌, leb, List, ◌∷◌, ◌++◌, get_or, drop, Some, None, Ok, Option, sym, refl, ap, ◌∙◌, subst, ⊎_elim, arith}
 use Rattle.std.proofs.lemmas.List.{drop-drop}
+use Rattle.std.proofs.lemmas.Option.{none-some, same_Some}
 use Rattle.std.proofs.lemmas.Bool.{cond-true, cond-false, cases_Bool, leb-true, le-leb}
 use Rattle.elements.specs.declared.element.Element.TheVariants as el
 use Rattle.elements.specs.Reading.{next_is, element_at, coded_at, number_at, tmsi_at, channel_in, channel_at}
@@ -29,12 +30,6 @@ channel_there s xs at None so other d = cond-false _ _ _ (next_not s xs at el.Ch
 channel_there s xs at (Some n) so other d =
     cond-true _ _ _ (next_there s _ at el.Channel d) ∙ then_there _ (coded_there channel_in s xs at n el.Channel n d refl refl (cond-true _ _ _ (le-leb n 3 (so n refl)))) refl
 
-same_some : {X : Type 0} (x y : X) → ◌≡◌ {A = Option X} (Some x) (Some y) → x ≡ y
-same_some x y e = cc
-
-none_some : {X Y : Type 0} (x : X) → ◌≡◌ {A = Option X} None (Some x) → Y
-none_some x e = let z : ◌≡◌ {A = ℕ} 0 1 = cc in absurd (omega arith)
-
 pub record Tmsi (s : List ℕ) (at : ℕ) (t : Option ℕ) : Type 0 where
   pub small : (n : ℕ) → t ≡ Some n → n < 4294967296
   pub is : drop at s ≡ tmsi_element t ++ drop (at + tmsi_size t) s
@@ -53,12 +48,12 @@ tmsi_read s at t o r =
     let six : at + 2 + 4 ≡ at + 6 = omega arith in
     subst (λ w. Tmsi s at w) (same_ok _ t got.2)
     (record {
-      small = λ n e. subst (λ m. m < 4294967296) (same_some (number_at s (at + 2)) n e) num.1;
+      small = λ n e. subst (λ m. m < 4294967296) (same_Some (number_at s (at + 2)) n e) num.1;
       is = st.is ∙ ap (λ m. 2 ∷ m ∷ drop (at + 2) s) is4 ∙ ap (λ x. 2 ∷ 4 ∷ x) (num.0 ∙ ap (λ m. four_octets (number_at s (at + 2)) ++ drop m s) six);
     }))
     (λ f.
     let none : at ≡ at + 0 = omega arith in
-    subst (λ w. Tmsi s at w) (same_ok None t (sym (cond-false _ _ _ f) ∙ r)) (record { small = λ n e. none_some n e; is = ap (λ m. drop m s) none }))
+    subst (λ w. Tmsi s at w) (same_ok None t (sym (cond-false _ _ _ f) ∙ r)) (record { small = λ n e. absurd (none-some n e); is = ap (λ m. drop m s) none }))
     (cases_Bool (next_is s at el.Tmsi))
 
 pub record Channel (s : List ℕ) (at : ℕ) (c : Option ℕ) : Type 0 where
@@ -68,8 +63,8 @@ pub record Channel (s : List ℕ) (at : ℕ) (c : Option ℕ) : Type 0 where
 channel_small : (n m : ℕ) → channel_in n ≡ Some m → (n ≡ m) × (m ≤ 3)
 channel_small n m e =
     ⊎_elim
-    (λ t. let s = same_some n m (sym (cond-true _ _ _ t) ∙ e) in let l = leb-true n 3 t in (s, omega arith))
-    (λ f. none_some m (sym (cond-false _ _ _ f) ∙ e))
+    (λ t. let s = same_Some n m (sym (cond-true _ _ _ t) ∙ e) in let l = leb-true n 3 t in (s, omega arith))
+    (λ f. absurd (none-some m (sym (cond-false _ _ _ f) ∙ e)))
     (cases_Bool (leb n 3))
 
 pub channel_read : (s : List ℕ) (at : ℕ) (c : Option ℕ) → channel_at s at ≡ Ok c → Channel s at c
@@ -82,10 +77,10 @@ channel_read s at c r =
     let so = channel_small cd.octet n cd.stands in
     subst (λ w. Channel s at w) (same_ok _ c got.2)
     (record {
-      small = λ m e. subst (λ k. k ≤ 3) (same_some n m e) so.1;
+      small = λ m e. subst (λ k. k ≤ 3) (same_Some n m e) so.1;
       is = cd.is ∙ ap (λ m. octet_element el.Channel m ++ drop (at + 3) s) so.0;
     }))
     (λ f.
     let none : at ≡ at + 0 = omega arith in
-    subst (λ w. Channel s at w) (same_ok None c (sym (cond-false _ _ _ f) ∙ r)) (record { small = λ n e. none_some n e; is = ap (λ m. drop m s) none }))
+    subst (λ w. Channel s at w) (same_ok None c (sym (cond-false _ _ _ f) ∙ r)) (record { small = λ n e. absurd (none-some n e); is = ap (λ m. drop m s) none }))
     (cases_Bool (next_is s at el.Channel))

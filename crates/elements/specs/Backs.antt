@@ -1,7 +1,8 @@
--- No octet is read as a value that is written otherwise: what each kind of code owes.
-use Rattle.std.specs.Prelude.{◌≡◌, ℕ, Some, ◌==◌}
+-- No octet is read as a value that is written otherwise, nor as an unlawful one: what each kind of code owes.
+use Rattle.std.specs.Prelude.{◌≡◌, ℕ, ◌≤◌, true, Some, ◌==◌}
 use Rattle.std.proofs.Common.{sym, ap, ◌∙◌, ⊎_elim}
-use Rattle.std.proofs.lemmas.Bool.{cond-true, cond-false, eqb-true, cases_Bool}
+use Rattle.std.proofs.Math.Nat.{pos_of_ne-zero}
+use Rattle.std.proofs.lemmas.Bool.{cond-true, cond-false, eqb-true, eqb-false, cases_Bool}
 use Rattle.std.proofs.lemmas.Option.{none-some, same_Some}
 use Rattle.elements.specs.declared.code.Cause.{Cause}
 use Rattle.elements.specs.declared.code.Cause.TheVariants as cause
@@ -45,16 +46,20 @@ gprs_back = either_back gprs_detach_octet gprs.ByNetwork gprs.ByMobile
 pub imsi_back : (n : ℕ) (x : ImsiDetachType) → imsi_detach_in n ≡ Some x → imsi_detach_octet x ≡ n
 imsi_back = either_back imsi_detach_octet imsi.Unacknowledged imsi.Acknowledged
 
-pub reject_number_back : (n : ℕ) (c : RejectCause) → reject_in n ≡ Some c → c.number ≡ n
-reject_number_back n c e =
+pub reject_back : (n : ℕ) (c : RejectCause) → reject_in n ≡ Some c → (c.number ≡ n) × (1 ≤ n)
+reject_back n c e =
     ⊎_elim
     (λ t. absurd (none-some c (sym (cond-true _ _ _ t) ∙ e)))
-    (λ f. sym (ap (λ (x : RejectCause). x.number) (same_Some _ c (sym (cond-false _ _ _ f) ∙ e))))
+    (λ f.
+    let s = same_Some _ c (sym (cond-false _ _ _ f) ∙ e) in
+    (sym (ap (λ (x : RejectCause). x.number) s), pos_of_ne-zero (eqb-false n 0 f)))
     (cases_Bool (n == 0))
 
-pub node_number_back : (n : ℕ) (x : NodeNumber) → entity_in n ≡ Some x → x.number ≡ n
-node_number_back n x e =
+pub entity_back : (n : ℕ) (x : NodeNumber) → entity_in n ≡ Some x → (x.number ≡ n) × (lawful_node x ≡ true)
+entity_back n x e =
     ⊎_elim
-    (λ t. sym (ap (λ (y : NodeNumber). y.number) (same_Some _ x (sym (cond-true _ _ _ t) ∙ e))))
+    (λ t.
+    let s = same_Some _ x (sym (cond-true _ _ _ t) ∙ e) in
+    (sym (ap (λ (y : NodeNumber). y.number) s), ap lawful_node (sym s) ∙ t))
     (λ f. absurd (none-some x (sym (cond-false _ _ _ f) ∙ e)))
     (cases_Bool (lawful_node (record { number = n })))

@@ -1,7 +1,7 @@
 // Contents of one octet: which octet stands for which case.
 ghost use Rattle.std.specs.Prelude.{◌≡◌, ℕ, if◌then◌else◌, Some, None, Option, nat_eq};
 ghost use Rattle.elements.specs.Codes.{cause_octet, cause_in, update_octet, update_in, class_octet, class_in, gprs_detach_octet, gprs_detach_in, imsi_detach_octet, imsi_detach_in, reject_in, entity_in};
-ghost use Rattle.elements.specs.Backs.{cause_back, update_back, class_back, gprs_back, imsi_back, reject_number_back, node_number_back};
+ghost use Rattle.elements.specs.Backs.{cause_back, update_back, class_back, gprs_back, imsi_back, reject_back, entity_back};
 
 use crate::node::NodeNumber;
 
@@ -175,7 +175,7 @@ impl Coded for RejectCause {
 
     ghost value_in = { reject_in };
 
-    ghost back = { reject_number_back };
+    ghost back = { λ n c e. (reject_back n c e).0 };
 
     fn octet(self) -> u8 {
         self.number
@@ -196,7 +196,7 @@ impl Coded for NodeNumber {
 
     ghost value_in = { entity_in };
 
-    ghost back = { node_number_back };
+    ghost back = { λ n x e. (entity_back n x e).0 };
 
     fn octet(self) -> u8 {
         self.number
