@@ -1,12 +1,13 @@
 -- Reading and writing an IMSI undo each other.
 use Rattle.std.proofs.Common.{◌≡◌, ℕ, zero, suc, ◌+◌, ◌-◌, ◌*◌, ◌/◌, ◌%◌, ◌^◌, ◌<◌, ◌≤◌, true, ◌&&◌, eqb, ltb, leb, List, [], ◌∷◌, ◌++◌, length, get_or, take, replicate, Some, None, Option, sym, refl, ap, ◌∙◌, subst, ⊎_elim, mod-lt, pow-suc, div-add-mod', arith}
+use Rattle.std.proofs.lemmas.Option.{none-some}
 use Rattle.std.proofs.lemmas.List.{take_at, take_all, get_or_at, length-take-le, take_more}
 use Rattle.std.proofs.lemmas.Bool.{cond-true, cond-false, eq-eqb, ne_eqb, eqb-true, lt-ltb, ltb-true, le-leb, leb-true, and_parts, and_from, cases_eq, cases_Bool}
 use Rattle.imsi.specs.declared.Imsi.{Imsi}
-use Rattle.imsi.specs.declared.writing.ImsiOctets.{ImsiOctets}
+use Rattle.arrayvec.specs.ArrayVec.{ArrayVec}
 use Rattle.imsi.specs.Halves.{halves, paired}
 use Rattle.imsi.specs.Spelling.{valued, digits, counted, after, in_halves, imsi_in, spelt, imsi_octets, lawful_imsi, Spells, ReadsExactly}
-use Rattle.imsi.specs.Written.{written_of, octet_count, ReadBack}
+use Rattle.imsi.specs.Written.{written_of, spelling_of, ReadBack}
 use Rattle.imsi.proofs.Nibbles.{length-halves, length-paired, halves-paired, paired-halves}
 use Rattle.imsi.proofs.Values.{valued-digits, digits-valued}
 use Rattle.imsi.proofs.Spelt.{Small-spelt, length-spelt, length-digits, length-octets}
@@ -60,9 +61,6 @@ read_written k v law =
 uncounted : (n k v : ℕ) (o : Option ℕ) → counted n o ≡ Some (k, v) → (n ≡ k) × (o ≡ Some v)
 uncounted n k v None e = let y : ◌≡◌ {A = ℕ} 0 1 = cc in absurd (omega arith)
 uncounted n k v (Some w) e = let p : ◌≡◌ {A = ℕ × ℕ} (n, w) (k, v) = cc in (ap (λ (t : ℕ × ℕ). t.0) p, ap (λ (t : ℕ × ℕ). Some t.1) p)
-
-none_some : {X : Type 0} (k v : ℕ) → ◌≡◌ {A = Option (ℕ × ℕ)} None (Some (k, v)) → X
-none_some k v e = let y : ◌≡◌ {A = ℕ} 0 1 = cc in absurd (omega arith)
 
 tens_pos : (k : ℕ) → 0 < 10 ^ k
 tens_pos zero = omega arith
@@ -123,7 +121,7 @@ found_in n m k v hs some long e =
     let f = eqb-true (get_or (m ∷ hs) (2 * n - 1) 0) 15 b.1 in
     let f1 = subst (λ x. get_or (x ∷ hs) (2 * n - 1) 0 ≡ 15) is f in
     subst (λ x. Found n k v (x ∷ hs)) (sym is) (even_in n k v hs (ltb-true 1 n b.0) long f1 (sym (cond-true _ _ _ yes') ∙ e1)))
-    (λ not'. none_some k v (sym (cond-false _ _ _ not') ∙ e1))
+    (λ not'. absurd (none-some (k, v) (sym (cond-false _ _ _ not') ∙ e1)))
     (cases_Bool (eqb m 1 && (ltb 1 n && eqb (get_or (m ∷ hs) (2 * n - 1) 0) 15))))
     (cases_Bool (eqb m 9))
 
@@ -141,7 +139,7 @@ written_read os k v e =
     let f = found os k v low (sym (cond-true _ _ _ t) ∙ e) in
     let s = f.size in
     (lawful_from k v f.some (omega arith) f.below, ap paired f.is ∙ paired-halves os))
-    (λ f. none_some k v (sym (cond-false _ _ _ f) ∙ e))
+    (λ f. absurd (none-some (k, v) (sym (cond-false _ _ _ f) ∙ e)))
     (cases_Bool (leb 1 (length os) && leb (length os) 8))
 
 pub exactly : (os : List ℕ) (r : Option (ℕ × ℕ)) → r ≡ imsi_in os → ReadsExactly os r
@@ -150,32 +148,21 @@ exactly os r e = record {
   read_so = λ k v h. e ∙ ap imsi_in (sym h.1) ∙ read_written k v h.0;
 }
 
--- the octets that are meant, and their number
-abbrev shown_in : Option ImsiOctets → List ℕ
-shown_in None = []
-shown_in (Some w) = take w.count w.octets
-
-abbrev count_in : Option ImsiOctets → ℕ
-count_in None = 0
-count_in (Some w) = w.count
-
-pub record Shown (i : Imsi) (w : ImsiOctets) : Type 0 where
+-- what the writer answers are the octets that spell a lawful IMSI
+pub record Shown (i : Imsi) (w : ArrayVec ℕ) : Type 0 where
   pub lawful : lawful_imsi i.digits i.value ≡ true
-  pub count : w.count ≡ octet_count i.digits
-  pub octets : take w.count w.octets ≡ imsi_octets i.digits i.value
+  pub items : w.items ≡ imsi_octets i.digits i.value
 
--- what the writer answers are the octets that spell the IMSI
-pub shown : (i : Imsi) (w : ImsiOctets) → Some w ≡ written_of i → Shown i w
+pub shown : (i : Imsi) (w : ArrayVec ℕ) → Some w ≡ written_of i → Shown i w
 shown i w e =
     ⊎_elim
     (λ law.
-    let k = i.digits in
-    let rest = replicate (8 - octet_count k) 255 in
-    let is = e ∙ cond-true _ _ _ law in
-    record { lawful = law; count = ap count_in is; octets = ap shown_in is ∙ take_at (imsi_octets k i.value) rest (octet_count k) (length-octets k i.value) })
-    (λ no-law. let z : ◌≡◌ {A = Option ImsiOctets} (Some w) None = e ∙ cond-false _ _ _ no-law in let y : ◌≡◌ {A = ℕ} 0 1 = cc in absurd (omega arith))
+    let is : ◌≡◌ {A = Option (ArrayVec ℕ)} (Some w) (Some (spelling_of i)) = e ∙ cond-true _ _ _ law in
+    let same : w ≡ spelling_of i = cc in
+    record { lawful = law; items = ap (λ (v : ArrayVec ℕ). v.items) same })
+    (λ no-law. absurd (none-some w (sym (cond-false _ _ _ no-law) ∙ sym e)))
     (cases_Bool (lawful_imsi i.digits i.value))
 
 -- and they are read back as what it was given
-pub read_back : (i : Imsi) (r : Option ImsiOctets) → r ≡ written_of i → ReadBack i r
-read_back i r e w h = let s = shown i w (sym h ∙ e) in ap imsi_in s.octets ∙ read_written i.digits i.value s.lawful
+pub read_back : (i : Imsi) (r : Option (ArrayVec ℕ)) → r ≡ written_of i → ReadBack i r
+read_back i r e w h = let s = shown i w (sym h ∙ e) in ap imsi_in s.items ∙ read_written i.digits i.value s.lawful

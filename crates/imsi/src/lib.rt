@@ -29,8 +29,9 @@ const LIMITS: [u64; 16] = [
 ];
 
 // A digit count and the number that the digits write. The count matters: 01 and 1 are two mobiles.
+// Fewer digits come first, and of as many digits the smaller value.
 // Any pair of numbers can be held here; `is_lawful` says whether it is an IMSI.
-#[derive(Clone, Copy, PartialEq, Eq)]
+#[derive(Clone, Copy, Debug, PartialEq, Eq, PartialOrd, Ord)]
 pub struct Imsi {
     pub digits: u8,
     pub value: u64,
