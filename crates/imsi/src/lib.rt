@@ -1,7 +1,7 @@
 // The IMSI, a mobile's number: what is lawful, and the octets that spell it.
 #![tactic(auto)]
 
-ghost use Rattle.std.specs.Prelude.{◌≡◌, ◌^◌, ◌≤◌};
+ghost use Rattle.std.specs.Prelude.{◌≡◌};
 ghost use Rattle.imsi.specs.Spelling.{lawful_imsi};
 
 mod halves;
@@ -42,17 +42,6 @@ impl Imsi {
     pub fn is_lawful(self) -> bool
         ensures { result ≡ lawful_imsi self.digits self.value }
     {
-        if self.digits < 1 || self.digits > 15 {
-            return false;
-        }
-        self.value < limit(self.digits)
+        matches!(self.digits, 1..=15) && self.value < LIMITS[self.digits as usize]
     }
-}
-
-// The first number that takes more than so many digits.
-fn limit(digits: u8) -> u64
-    requires { digits ≤ 15 }
-    ensures { result ≡ 10 ^ digits }
-{
-    LIMITS[digits as usize]
 }

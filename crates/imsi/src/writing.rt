@@ -14,7 +14,5 @@ pub fn octets_of(imsi: Imsi) -> Option<ArrayVec<u8, 8>>
     if !imsi.is_lawful() {
         return None;
     }
-    let mut octets = ArrayVec::from(octets_from(imsi.digits, imsi.value));
-    octets.truncate(imsi.digits as usize / 2 + 1);
-    Some(octets)
+    Some(octets_from(imsi.digits, imsi.value))
 }

@@ -1,7 +1,7 @@
-use Rattle.std.proofs.Common.{◌≡◌, ◌+◌, ◌-◌, ◌*◌, ◌/◌, ◌%◌, get_or, drop, sym, refl, ap, ◌∙◌, arith}
+use Rattle.std.proofs.Common.{◌+◌, ◌-◌, ◌*◌, ◌/◌, sym, refl, ◌∙◌, arith}
 use Rattle.std.proofs.lemmas.List.{at_drop_all, length-take}
 use Rattle.imsi.specs.Spelling.{valued}
-use Rattle.imsi.proofs.Nibbles.{half_low, half_high}
+use Rattle.imsi.proofs.Nibbles.{half_low}
 use Rattle.imsi.proofs.Octets.{ahead, digit_on, digit_off, low_at, high_at, pair_on, pair_grown, pair_room}
 use Rattle.imsi.proofs.halves.value_in.Goals as goal
 
@@ -23,8 +23,8 @@ returns-in_err-high c =
     let low = c.in_ok-low.ensures in
     c.from_residual-in_err-high.ensures
     ∙ sym (
-      digit_on os n (2 * j + 1) v c.in_ok-low.low (omega arith) (omega arith) (low_at os ((n + 1) / 2 - 1) j _ (omega arith) low.0) low.1
-      ∙ digit_off os n (2 * j + 1 + 1) (v * 10 + c.in_ok-low.low) _ (omega arith) (omega arith) (high_at os ((n + 1) / 2 - 1) j _ (omega arith) refl) c.in_err-high.ensures
+    digit_on os n (2 * j + 1) v c.in_ok-low.low (omega arith) (omega arith) (low_at os ((n + 1) / 2 - 1) j _ (omega arith) low.0) low.1
+    ∙ digit_off os n (2 * j + 1 + 1) (v * 10 + c.in_ok-low.low) _ (omega arith) (omega arith) (high_at os ((n + 1) / 2 - 1) j _ (omega arith) refl) c.in_err-high.ensures
     )
     ∙ c.loop-octet.invariant.rest
 
