@@ -33,9 +33,9 @@ pub(crate) fn put_head(buffer: &mut [u8], at: usize, type_octet: u8, imsi: Imsi)
     let next = put(
         buffer,
         at,
-        &[type_octet, Element::Imsi.identifier(), spelt.len() as u8],
+        &[type_octet, Element::Imsi.identifier(), spelt.count as u8],
     );
-    put(buffer, next, &spelt)
+    put(buffer, next, &spelt.octets[0..spelt.count])
 }
 
 // An element of one octet.

@@ -1,4 +1,4 @@
-use Rattle.std.proofs.Common.{◌≡◌, ℕ, ◌+◌, ◌/◌, List, ◌∷◌, length, ap, ◌∙◌, subst, arith}
+use Rattle.std.proofs.Common.{◌≡◌, ℕ, ◌-◌, List, ◌∷◌, length, take, ap, ◌∙◌, subst, arith}
 use Rattle.imsi.proofs.Round.{shown, lawful_parts}
 use Rattle.imsi.proofs.Spelt.{length-octets}
 use Rattle.messages.specs.Writing.{Wrote}
@@ -10,9 +10,12 @@ returns c =
     let i = c.args.imsi in
     let w = c.in-Some.spelt in
     let sh = shown i w c.in-Some.ensures.value in
+    let count = sh.count in
+    let zero : w.count - 0 ≡ w.count = omega arith in
+    let is = ap (λ n. take n w.octets) zero ∙ sh.octets in
     let few = (lawful_parts i.digits i.value sh.lawful).few in
-    let count : c.len.result ≡ i.digits / 2 + 1 = c.len.ensures.value ∙ ap length sh.items ∙ length-octets i.digits i.value in
-    let is = c.deref.ensures.0 ∙ sh.items in
+    let long = ap length is ∙ length-octets i.digits i.value in
+    let three = c.put-next.ensures.next_at in
     let both = wrote_more c.put-next.ensures c.put.ensures (omega arith) in
     record {
       few = omega (arith, c.put.ensures.next_at);
