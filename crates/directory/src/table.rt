@@ -1,4 +1,5 @@
 // Looking up, storing and changing the records in the first places of a slice.
+// A slice and the count of places held, not one type that has both: the ends own the places, in fixed memory.
 // Each promise supposes that those records rise; whoever holds them keeps that, as each change of them does.
 ghost use Rattle.std.specs.Prelude.{◌≡◌, ◌≤◌, ◌++◌, map, length, take, drop};
 ghost use Rattle.directory.specs.Lookup.{at, Held, Stored, AfterChange};
@@ -16,10 +17,8 @@ pub fn look<R: OfMobile + Copy>(places: &[R], held: usize, imsi: Imsi) -> Option
         return None;
     }
     let list = &places[0..held];
-    match find(list, imsi) {
-        Ok(i) => Some(list[i]),
-        Err(_) => None,
-    }
+    let i = find(list, imsi).ok()?;
+    Some(list[i])
 }
 
 // Writes a record over the one of its mobile, or in its place in the order, among the first `held`.
@@ -49,9 +48,8 @@ pub fn store<R: OfMobile + Copy>(places: &mut [R], held: usize, record: R) -> Op
 fn change_all<R: Copy, F: Change<R>>(list: &mut [R], change: &F)
     ensures { list.new ≡ map (F.Change.to change.now) list.old }
 {
-    for i in 0..list.len() {
-        let record = list[i];
-        list[i] = change.change(record);
+    for record in list.iter_mut() {
+        *record = change.change(*record);
     }
 }
 

@@ -1,5 +1,6 @@
 -- Reading and writing an IMSI undo each other.
 use Rattle.std.proofs.Common.{◌≡◌, ℕ, zero, suc, ◌+◌, ◌-◌, ◌*◌, ◌/◌, ◌%◌, ◌^◌, ◌<◌, ◌≤◌, true, ◌&&◌, eqb, ltb, leb, List, [], ◌∷◌, ◌++◌, length, get_or, take, replicate, Some, None, Option, sym, refl, ap, ◌∙◌, subst, ⊎_elim, mod-lt, pow-suc, div-add-mod', arith}
+use Rattle.std.proofs.lemmas.Option.{none-some}
 use Rattle.std.proofs.lemmas.List.{take_at, take_all, get_or_at, length-take-le, take_more}
 use Rattle.std.proofs.lemmas.Bool.{cond-true, cond-false, eq-eqb, ne_eqb, eqb-true, lt-ltb, ltb-true, le-leb, leb-true, and_parts, and_from, cases_eq, cases_Bool}
 use Rattle.imsi.specs.declared.Imsi.{Imsi}
@@ -61,9 +62,6 @@ uncounted : (n k v : ℕ) (o : Option ℕ) → counted n o ≡ Some (k, v) → (
 uncounted n k v None e = let y : ◌≡◌ {A = ℕ} 0 1 = cc in absurd (omega arith)
 uncounted n k v (Some w) e = let p : ◌≡◌ {A = ℕ × ℕ} (n, w) (k, v) = cc in (ap (λ (t : ℕ × ℕ). t.0) p, ap (λ (t : ℕ × ℕ). Some t.1) p)
 
-none_some : {X : Type 0} (k v : ℕ) → ◌≡◌ {A = Option (ℕ × ℕ)} None (Some (k, v)) → X
-none_some k v e = let y : ◌≡◌ {A = ℕ} 0 1 = cc in absurd (omega arith)
-
 tens_pos : (k : ℕ) → 0 < 10 ^ k
 tens_pos zero = omega arith
 tens_pos (suc k) = let h = tens_pos k in rw (pow-suc 10 k) (omega arith)
@@ -123,7 +121,7 @@ found_in n m k v hs some long e =
     let f = eqb-true (get_or (m ∷ hs) (2 * n - 1) 0) 15 b.1 in
     let f1 = subst (λ x. get_or (x ∷ hs) (2 * n - 1) 0 ≡ 15) is f in
     subst (λ x. Found n k v (x ∷ hs)) (sym is) (even_in n k v hs (ltb-true 1 n b.0) long f1 (sym (cond-true _ _ _ yes') ∙ e1)))
-    (λ not'. none_some k v (sym (cond-false _ _ _ not') ∙ e1))
+    (λ not'. absurd (none-some (k, v) (sym (cond-false _ _ _ not') ∙ e1)))
     (cases_Bool (eqb m 1 && (ltb 1 n && eqb (get_or (m ∷ hs) (2 * n - 1) 0) 15))))
     (cases_Bool (eqb m 9))
 
@@ -141,7 +139,7 @@ written_read os k v e =
     let f = found os k v low (sym (cond-true _ _ _ t) ∙ e) in
     let s = f.size in
     (lawful_from k v f.some (omega arith) f.below, ap paired f.is ∙ paired-halves os))
-    (λ f. none_some k v (sym (cond-false _ _ _ f) ∙ e))
+    (λ f. absurd (none-some (k, v) (sym (cond-false _ _ _ f) ∙ e)))
     (cases_Bool (leb 1 (length os) && leb (length os) 8))
 
 pub exactly : (os : List ℕ) (r : Option (ℕ × ℕ)) → r ≡ imsi_in os → ReadsExactly os r
@@ -173,7 +171,7 @@ shown i w e =
     let rest = replicate (8 - octet_count k) 255 in
     let is = e ∙ cond-true _ _ _ law in
     record { lawful = law; count = ap count_in is; octets = ap shown_in is ∙ take_at (imsi_octets k i.value) rest (octet_count k) (length-octets k i.value) })
-    (λ no-law. let z : ◌≡◌ {A = Option ImsiOctets} (Some w) None = e ∙ cond-false _ _ _ no-law in let y : ◌≡◌ {A = ℕ} 0 1 = cc in absurd (omega arith))
+    (λ no-law. absurd (none-some w (sym (cond-false _ _ _ no-law) ∙ sym e)))
     (cases_Bool (lawful_imsi i.digits i.value))
 
 -- and they are read back as what it was given

@@ -1,12 +1,9 @@
 -- Digits and the number that they write.
-use Rattle.std.proofs.Common.{◌≡◌, ℕ, zero, suc, ◌+◌, ◌*◌, ◌/◌, ◌%◌, ◌^◌, ◌<◌, ◌≤◌, cond, ltb, List, [], ◌∷◌, ◌++◌, length, get_or, take, drop, Some, None, Option, sym, refl, ap, ◌∙◌, subst, ⊎_elim, pow-suc, add-one, arith}
-use native.Mathlib.Nat.{pow-le-pow_right, div-div-eq-div-mul}
+use Rattle.std.proofs.Common.{◌≡◌, ℕ, zero, suc, ◌+◌, ◌*◌, ◌/◌, ◌%◌, ◌^◌, ◌<◌, cond, ltb, List, [], ◌∷◌, ◌++◌, length, get_or, take, drop, Some, None, Option, sym, refl, ap, ◌∙◌, subst, ⊎_elim, pow-suc, add-one, arith}
+use native.Mathlib.Nat.{div-div-eq-div-mul}
 use Rattle.std.proofs.lemmas.List.{length-take, length-drop, get_or-take, get_or-drop, at_drop_more}
 use Rattle.std.proofs.lemmas.Bool.{cond-true, cond-false, lt-ltb, ltb-true, cases_Bool}
 use Rattle.imsi.specs.Spelling.{valued, digits}
-
-pub room : (v j d : ℕ) → v < 10 ^ j → j < 15 → d < 16 → v * 10 + d < 2 ^ 64
-room v j d h l s = let q : j ≤ 14 = omega arith in let p : 10 ^ j ≤ 10 ^ 14 = pow-le-pow_right (omega arith) q in omega arith
 
 pub grown : (v j d : ℕ) → v < 10 ^ j → d < 10 → v * 10 + d < 10 ^ (j + 1)
 grown v j d h l = rw (add-one j, pow-suc 10 j) (omega arith)

@@ -1,18 +1,18 @@
 // Half octets: the low half of each octet stands before its high half.
-ghost use Rattle.std.specs.Prelude.{◌≡◌, ◌*◌, ◌<◌, ◌≤◌, length, take, drop, slice_index};
+ghost use Rattle.std.specs.Prelude.{◌≡◌, ◌*◌, ◌<◌, ◌≤◌, length, take, drop, MatchOption};
 ghost use Rattle.imsi.specs.Halves.{halves, paired};
 ghost use Rattle.imsi.specs.Spelling.{valued, filled};
+
+use crate::Imsi;
 
 // A half octet above this is no digit.
 const LAST_DIGIT: u8 = 9;
 
-// Half octet `k` of `octets`.
-pub(crate) fn half(octets: &[u8], k: usize) -> u8
-    requires { k < 2 * length octets.now }
-    ensures { result ≡ slice_index (halves octets.now) k }
+// A half octet as a digit, unless it is none.
+fn digit(half: u8) -> Option<u8>
+    ensures { MatchOption result (10 ≤ half) (λ d. (d ≡ half) × (d < 10)) }
 {
-    let octet = octets[k / 2];
-    if k % 2 == 0 { octet % 16 } else { octet / 16 }
+    (half <= LAST_DIGIT).then_some(half)
 }
 
 // The number that the `count` halves after the first write in decimal, unless one is no digit. They are taken
@@ -24,51 +24,39 @@ pub(crate) fn value_in(octets: &[u8], count: usize) -> Option<u64>
     requires few { count ≤ 15 }
     ensures { result ≡ valued 0 (take count (drop 1 (halves octets.now))) }
 {
-    let first = octets[0] / 16;
-    if first > LAST_DIGIT {
-        return None;
-    }
-    let mut value = first as u64;
-    for i in 1..(count + 1) / 2 {
-        let low = octets[i] % 16;
-        if low > LAST_DIGIT {
-            return None;
-        }
-        let high = octets[i] / 16;
-        if high > LAST_DIGIT {
-            return None;
-        }
+    let mut value = digit(octets[0] / 16)? as u64;
+    for octet in &octets[1..(count + 1) / 2] {
+        let low = digit(octet % 16)?;
+        let high = digit(octet / 16)?;
         value = value * 100 + (low * 10 + high) as u64;
     }
     if count % 2 == 1 {
         return Some(value);
     }
-    let last = octets[count / 2] % 16;
-    if last > LAST_DIGIT {
-        return None;
-    }
+    let last = digit(octets[count / 2] % 16)?;
     Some(value * 10 + last as u64)
 }
 
-// The octets that spell the last `digits` digits of `value`, FF in each place after them. They are made from
-// the last one back, two digits at a time: only the first octet, which has the marker, and the last one of an
-// even count, which has the filler, have one digit.
-pub(crate) fn octets_from(digits: u8, value: u64) -> [u8; 8]
-    requires some { 1 ≤ digits }
-    requires few { digits ≤ 15 }
-    ensures { result ≡ paired (filled digits value) }
+// The octets that spell as many of the last digits of the value as `imsi` has, FF in each place after them.
+// They are made from the last one back, two digits at a time: only the first octet, which has the marker, and
+// the last one of an even count, which has the filler, have one digit.
+pub(crate) fn octets_from(imsi: Imsi) -> [u8; 8]
+    requires some { 1 ≤ imsi.digits }
+    requires few { imsi.digits ≤ 15 }
+    ensures { result ≡ paired (filled imsi.digits imsi.value) }
 {
     let mut octets = [255u8; 8];
-    let mut left = value;
-    if digits % 2 == 0 {
-        octets[digits as usize / 2] = 240 + (left % 10) as u8;
+    let mut left = imsi.value;
+    if imsi.digits % 2 == 0 {
+        octets[imsi.digits as usize / 2] = 240 + (left % 10) as u8;
         left /= 10;
     }
-    for i in (1..(digits as usize + 1) / 2).rev() {
+    // By index: what is written through `iter_mut().rev()` is not known once its loop is over.
+    for i in (1..(imsi.digits as usize + 1) / 2).rev() {
         let pair = (left % 100) as u8;
         octets[i] = pair / 10 + 16 * (pair % 10);
         left /= 100;
     }
-    octets[0] = 1 + 8 * (digits % 2) + 16 * (left % 10) as u8;
+    octets[0] = 1 + 8 * (imsi.digits % 2) + 16 * (left % 10) as u8;
     octets
 }

@@ -1,7 +1,7 @@
 // The IMSI, a mobile's number: what is lawful, and the octets that spell it.
 #![tactic(auto)]
 
-ghost use Rattle.std.specs.Prelude.{◌≡◌, ◌^◌, ◌≤◌};
+ghost use Rattle.std.specs.Prelude.{◌≡◌};
 ghost use Rattle.imsi.specs.Spelling.{lawful_imsi};
 
 mod halves;
@@ -29,8 +29,9 @@ const LIMITS: [u64; 16] = [
 ];
 
 // A digit count and the number that the digits write. The count matters: 01 and 1 are two mobiles.
+// Fewer digits come first, and of as many digits the smaller value.
 // Any pair of numbers can be held here; `is_lawful` says whether it is an IMSI.
-#[derive(Clone, Copy, PartialEq, Eq)]
+#[derive(Clone, Copy, Debug, PartialEq, Eq, PartialOrd, Ord)]
 pub struct Imsi {
     pub digits: u8,
     pub value: u64,
@@ -41,17 +42,6 @@ impl Imsi {
     pub fn is_lawful(self) -> bool
         ensures { result ≡ lawful_imsi self.digits self.value }
     {
-        if self.digits < 1 || self.digits > 15 {
-            return false;
-        }
-        self.value < limit(self.digits)
+        matches!(self.digits, 1..=15) && self.value < LIMITS[self.digits as usize]
     }
-}
-
-// The first number that takes more than so many digits.
-fn limit(digits: u8) -> u64
-    requires { digits ≤ 15 }
-    ensures { result ≡ 10 ^ digits }
-{
-    LIMITS[digits as usize]
 }

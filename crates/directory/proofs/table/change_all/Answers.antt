@@ -1,13 +1,20 @@
-use Rattle.std.proofs.Common.{set, ap, ◌∙◌, arith}
+use Rattle.std.proofs.Common.{get_or, set, ap, ◌∙◌, arith}
+use Rattle.std.proofs.lemmas.List.{take_all, drop_all, append-nil}
 use Rattle.std.proofs.lemmas.List.Edits.{map_over_more}
-use Rattle.directory.proofs.Upto.{upto_all}
 use Rattle.directory.proofs.table.change_all.Goals as goal
 
-pub loop-i-preserved : goal.loop-i-preserved
-loop-i-preserved g c =
+pub loop-record-preserved : goal.loop-record-preserved
+loop-record-preserved g c =
     let f = g.F.Change.to c.args.change.now in
-    ap (λ x. set c.loop-i.list c.loop-i.i x) c.change.ensures
-    ∙ map_over_more f c.args.list.now c.loop-i.list c.loop-i.i c.index-list-i.result (omega arith) c.loop-i.invariant c.index-list-i.is
+    let list = c.loop-record.list in
+    let i = c.loop-record.record-index in
+    let item = c.record-item.result in
+    ap (set list i) c.change.ensures
+    ∙ map_over_more f c.args.list.now list i (get_or list i item) (omega arith) c.loop-record.invariant (ap (get_or list i) c.record-item.is)
 
 pub returns : goal.returns
-returns g c = upto_all (g.F.Change.to c.args.change.now) c.args.list.now c.loop-i.list c.loop-i.i (omega arith) c.loop-i.invariant
+returns g c =
+    let i = c.loop-record.record-index in
+    let t = take_all i c.args.list.now (omega arith) in
+    let d = drop_all i c.args.list.now (omega arith) in
+    c.loop-record.invariant ∙ simp (t, d, append-nil)

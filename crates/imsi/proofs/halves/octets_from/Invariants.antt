@@ -7,4 +7,4 @@ abbrev pub invariant-loop-i : goal.invariant-loop-i
 invariant-loop-i l =
     (length l.octets ≡ 8)
     × (1 ≤ l.i)
-    × (paired ((1 + 8 * (l.digits % 2)) ∷ digits (2 * l.i - 1) l.left) ++ drop l.i l.octets ≡ paired (filled l.digits l.value))
+    × (paired ((1 + 8 * (l.imsi.digits % 2)) ∷ digits (2 * l.i - 1) l.left) ++ drop l.i l.octets ≡ paired (filled l.imsi.digits l.imsi.value))
