@@ -25,25 +25,17 @@ pub struct Reader<'a> {
 }
 
 impl<'a> Reader<'a> {
+    // From the first octet on.
     pub fn new(octets: &'a [u8]) -> Reader<'a>
-        ensures octets { result.octets.now ≡ octets.now }
-        ensures at { result.at ≡ 0 }
+        ensures { result ≡ record { octets = octets.entry; at = 0 } }
     {
-        Reader::starting_at(octets, 0)
-    }
-
-    pub fn starting_at(octets: &'a [u8], at: usize) -> Reader<'a>
-        ensures octets { result.octets.now ≡ octets.now }
-        ensures at { result.at ≡ at }
-    {
-        Reader { octets, at }
+        Reader { octets, at: 0 }
     }
 
     // One octet, unless the octets end here.
     pub fn octet(&mut self) -> Option<u8>
         ensures value { result ≡ slice_get self.old.octets.now self.old.at }
-        ensures after { IfSome result (λ _. self.new.at ≡ self.old.at + 1) }
-        ensures octets { self.new.octets.now ≡ self.old.octets.now }
+        ensures after { IfSome result (λ _. self.new ≡ record self.old { at = self.old.at + 1 }) }
     {
         let octet = *self.octets.get(self.at)?;
         self.at += 1;
@@ -80,8 +72,7 @@ impl<'a> Reader<'a> {
     // The value that the content octet of an element stands for.
     pub fn coded<T: Coded>(&mut self, element: Element) -> Result<T, Fault>
         ensures value { result ≡ coded_at T.Coded.value_in self.old.octets.now self.old.at element }
-        ensures after { OnOk result (self.new.at ≡ self.old.at + 3) }
-        ensures octets { self.new.octets.now ≡ self.old.octets.now }
+        ensures after { OnOk result (self.new ≡ record self.old { at = self.old.at + 3 }) }
     {
         let _count = self.content_count(element)?;
         let place = self.at + 2;
@@ -93,8 +84,7 @@ impl<'a> Reader<'a> {
     // The digit count and the value of an IMSI.
     pub fn imsi(&mut self) -> Result<(u8, u64), Fault>
         ensures value { result ≡ imsi_at self.old.octets.now self.old.at }
-        ensures after { IfOk result (λ i. self.new.at ≡ self.old.at + 3 + i.0 / 2) }
-        ensures octets { self.new.octets.now ≡ self.old.octets.now }
+        ensures after { IfOk result (λ i. self.new ≡ record self.old { at = self.old.at + 3 + i.0 / 2 }) }
     {
         let count = self.content_count(Element::Imsi)?;
         let place = self.at + 2;
@@ -107,8 +97,7 @@ impl<'a> Reader<'a> {
     // A TMSI, which is absent unless its identifier is next.
     pub fn tmsi(&mut self) -> Result<Option<u32>, Fault>
         ensures value { result ≡ tmsi_at self.old.octets.now self.old.at }
-        ensures after { IfOk result (λ t. self.new.at ≡ after_tmsi self.old.at t) }
-        ensures octets { self.new.octets.now ≡ self.old.octets.now }
+        ensures after { IfOk result (λ t. self.new ≡ record self.old { at = after_tmsi self.old.at t }) }
     {
         if !self.is_next(Element::Tmsi) {
             return Ok(None);
@@ -122,8 +111,7 @@ impl<'a> Reader<'a> {
     // A channel, which is absent unless its identifier is next.
     pub fn channel(&mut self) -> Result<Option<u8>, Fault>
         ensures value { result ≡ channel_at self.old.octets.now self.old.at }
-        ensures after { IfOk result (λ c. self.new.at ≡ after_channel self.old.at c) }
-        ensures octets { self.new.octets.now ≡ self.old.octets.now }
+        ensures after { IfOk result (λ c. self.new ≡ record self.old { at = after_channel self.old.at c }) }
     {
         if !self.is_next(Element::Channel) {
             return Ok(None);
@@ -141,8 +129,7 @@ impl<'a> Reader<'a> {
     // A location area.
     pub fn area(&mut self, area: Area) -> Result<LocationArea, Fault>
         ensures value { result ≡ area_at self.old.octets.now self.old.at (element_of area) }
-        ensures after { OnOk result (self.new.at ≡ self.old.at + 7) }
-        ensures octets { self.new.octets.now ≡ self.old.octets.now }
+        ensures after { OnOk result (self.new ≡ record self.old { at = self.old.at + 7 }) }
     {
         let Reader { octets, at } = *self;
         let _count = self.content_count(area.element())?;
