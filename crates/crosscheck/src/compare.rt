@@ -6,6 +6,7 @@ use elements::area::LocationArea;
 use elements::code::{Cause, Class, GprsDetachType, ImsiDetachType, RejectCause, UpdateType};
 use elements::fault::{Fault, Layer};
 use elements::node::NodeNumber;
+use elements::reader::Reader;
 use frames::frame::Frame;
 use frames::reading::read_frame;
 use frames::writing::write_frame;
@@ -228,7 +229,7 @@ fn of_frame(frame: Frame, octets: &[u8]) -> Verdict {
 // The library's answer.
 pub(crate) fn ask_library(form: Form, octets: &[u8]) -> Verdict {
     match form {
-        Form::Message => match read_message(octets) {
+        Form::Message => match read_message(Reader::new(octets)) {
             Ok(message) => of_message(message, octets),
             Err(fault) => refused(fault),
         },

@@ -1,6 +1,6 @@
 -- Location areas: where their octets stand they are read, and where they are read their octets stand.
-use Rattle.std.proofs.Common.{◌≡◌, ℕ, zero, suc, ◌+◌, ◌<◌, List, [], ◌∷◌, ◌++◌, length, get_or, drop, Ok, refl, ap, ◌∙◌, subst, arith}
-use Rattle.std.proofs.lemmas.List.{drop_more, length-append}
+use Rattle.std.proofs.Common.{◌≡◌, ℕ, ◌+◌, List, [], ◌∷◌, ◌++◌, length, get_or, drop, Ok, refl, ap, ◌∙◌, subst, arith}
+use Rattle.std.proofs.lemmas.List.{drop_more, length-append, get_or_append_left}
 use Rattle.elements.specs.declared.area.LocationArea.{LocationArea}
 use Rattle.elements.specs.declared.element.Element.{Element}
 use Rattle.elements.specs.Reading.{element_at, area_at}
@@ -19,20 +19,15 @@ five (a ∷ b ∷ c ∷ d ∷ []) e = absurd (omega arith)
 five (a ∷ b ∷ c ∷ d ∷ f ∷ []) e = refl
 five (a ∷ b ∷ c ∷ d ∷ f ∷ g ∷ xs) e = absurd (omega arith)
 
-front : (xs ys : List ℕ) (k : ℕ) → k < length xs → get_or (xs ++ ys) k 0 ≡ get_or xs k 0
-front [] ys k h = absurd (omega arith)
-front (x ∷ xs) ys zero h = refl
-front (x ∷ xs) ys (suc k) h = front xs ys k (omega arith)
-
 pub area_there : (s xs : List ℕ) (at : ℕ) (e : Element) (a : LocationArea) → drop at s ≡ area_element e a ++ xs → least_of e ≡ 5 → most_of e ≡ 5 → length a.octets ≡ 5 → area_at s at e ≡ Ok a
 area_there s xs at e a d lo hi l =
     let os = a.octets in
     let long = length-append os xs in
-    let g2 = at-drop s (area_element e a ++ xs) at 2 d ∙ front os xs 0 (omega arith) in
-    let g3 = at-drop s (area_element e a ++ xs) at 3 d ∙ front os xs 1 (omega arith) in
-    let g4 = at-drop s (area_element e a ++ xs) at 4 d ∙ front os xs 2 (omega arith) in
-    let g5 = at-drop s (area_element e a ++ xs) at 5 d ∙ front os xs 3 (omega arith) in
-    let g6 = at-drop s (area_element e a ++ xs) at 6 d ∙ front os xs 4 (omega arith) in
+    let g2 = at-drop s (area_element e a ++ xs) at 2 d ∙ get_or_append_left os xs 0 0 (omega arith) in
+    let g3 = at-drop s (area_element e a ++ xs) at 3 d ∙ get_or_append_left os xs 0 1 (omega arith) in
+    let g4 = at-drop s (area_element e a ++ xs) at 4 d ∙ get_or_append_left os xs 0 2 (omega arith) in
+    let g5 = at-drop s (area_element e a ++ xs) at 5 d ∙ get_or_append_left os xs 0 3 (omega arith) in
+    let g6 = at-drop s (area_element e a ++ xs) at 6 d ∙ get_or_append_left os xs 0 4 (omega arith) in
     then_there _ (element_there s (os ++ xs) at 5 e d (omega arith) (omega arith) (omega arith))
     ((λ i. Ok (record { octets = g2 i ∷ g3 i ∷ g4 i ∷ g5 i ∷ g6 i ∷ [] })) ∙ ap (λ t. Ok (record { octets = t })) (five os l))
 

@@ -4,19 +4,10 @@ use Rattle.std.proofs.lemmas.List.{drop-drop}
 use Rattle.std.proofs.lemmas.Option.{none-some, same_Some}
 use Rattle.std.proofs.lemmas.Bool.{cond-true, cond-false, cases_Bool, leb-true, le-leb}
 use Rattle.elements.specs.declared.element.Element.TheVariants as el
-use Rattle.elements.specs.Reading.{next_is, element_at, coded_at, number_at, tmsi_at, channel_in, channel_at}
+use Rattle.elements.specs.Reading.{next_is, element_at, coded_at, number_at, after_tmsi, tmsi_at, channel_in, after_channel, channel_at}
 use Rattle.elements.specs.Spelling.{octet_element, four_octets, tmsi_element, channel_element}
 use Rattle.elements.proofs.Chains.{then_there, then_ok, same_ok}
 use Rattle.elements.proofs.Elements.{next_there, next_not, element_there, element_read, coded_there, coded_read, number_there, number_read}
-
--- how many octets what may be absent takes
-abbrev pub tmsi_size : Option ℕ → ℕ
-tmsi_size None = 0
-tmsi_size (Some n) = 6
-
-abbrev pub channel_size : Option ℕ → ℕ
-channel_size None = 0
-channel_size (Some n) = 3
 
 pub tmsi_there : (s xs : List ℕ) (at : ℕ) (t : Option ℕ) → ((n : ℕ) → t ≡ Some n → n < 4294967296) → (get_or xs 0 0 ≡ 2 → ⊥) → drop at s ≡ tmsi_element t ++ xs → tmsi_at s at ≡ Ok t
 tmsi_there s xs at None so other d = cond-false _ _ _ (next_not s xs at el.Tmsi d other)
@@ -32,7 +23,7 @@ channel_there s xs at (Some n) so other d =
 
 pub record Tmsi (s : List ℕ) (at : ℕ) (t : Option ℕ) : Type 0 where
   pub small : (n : ℕ) → t ≡ Some n → n < 4294967296
-  pub is : drop at s ≡ tmsi_element t ++ drop (at + tmsi_size t) s
+  pub is : drop at s ≡ tmsi_element t ++ drop (after_tmsi at t) s
 
 pub tmsi_read : (s : List ℕ) (at : ℕ) (t : Option ℕ) → ((k : ℕ) → get_or s k 0 < 256) → tmsi_at s at ≡ Ok t → Tmsi s at t
 tmsi_read s at t o r =
@@ -51,14 +42,12 @@ tmsi_read s at t o r =
       small = λ n e. subst (λ m. m < 4294967296) (same_Some (number_at s (at + 2)) n e) num.1;
       is = st.is ∙ ap (λ m. 2 ∷ m ∷ drop (at + 2) s) is4 ∙ ap (λ x. 2 ∷ 4 ∷ x) (num.0 ∙ ap (λ m. four_octets (number_at s (at + 2)) ++ drop m s) six);
     }))
-    (λ f.
-    let none : at ≡ at + 0 = omega arith in
-    subst (λ w. Tmsi s at w) (same_ok None t (sym (cond-false _ _ _ f) ∙ r)) (record { small = λ n e. absurd (none-some n e); is = ap (λ m. drop m s) none }))
+    (λ f. subst (λ w. Tmsi s at w) (same_ok None t (sym (cond-false _ _ _ f) ∙ r)) (record { small = λ n e. absurd (none-some n e); is = refl }))
     (cases_Bool (next_is s at el.Tmsi))
 
 pub record Channel (s : List ℕ) (at : ℕ) (c : Option ℕ) : Type 0 where
   pub small : (n : ℕ) → c ≡ Some n → n ≤ 3
-  pub is : drop at s ≡ channel_element c ++ drop (at + channel_size c) s
+  pub is : drop at s ≡ channel_element c ++ drop (after_channel at c) s
 
 channel_small : (n m : ℕ) → channel_in n ≡ Some m → (n ≡ m) × (m ≤ 3)
 channel_small n m e =
@@ -80,7 +69,5 @@ channel_read s at c r =
       small = λ m e. subst (λ k. k ≤ 3) (same_Some n m e) so.1;
       is = cd.is ∙ ap (λ m. octet_element el.Channel m ++ drop (at + 3) s) so.0;
     }))
-    (λ f.
-    let none : at ≡ at + 0 = omega arith in
-    subst (λ w. Channel s at w) (same_ok None c (sym (cond-false _ _ _ f) ∙ r)) (record { small = λ n e. absurd (none-some n e); is = ap (λ m. drop m s) none }))
+    (λ f. subst (λ w. Channel s at w) (same_ok None c (sym (cond-false _ _ _ f) ∙ r)) (record { small = λ n e. absurd (none-some n e); is = refl }))
     (cases_Bool (next_is s at el.Channel))

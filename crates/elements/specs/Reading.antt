@@ -38,6 +38,11 @@ number_at s at = slice_index s at * 16777216 + slice_index s (at + 1) * 65536 + 
 abbrev pub tmsi_at : List ℕ → ℕ → Result (Option ℕ) Fault
 tmsi_at s at = cond (next_is s at el.Tmsi) (and_then (element_at s at el.Tmsi) (λ _. Ok (Some (number_at s (at + 2))))) (Ok None)
 
+-- the place after a TMSI, present or absent, that would begin at a place
+abbrev pub after_tmsi : ℕ → Option ℕ → ℕ
+after_tmsi at None = at
+after_tmsi at (Some _) = at + 6
+
 -- a channel of 0 to 3, absent unless its identifier is next
 abbrev pub channel_in : ℕ → Option ℕ
 channel_in n = cond (nat_le n 3) (Some n) None
@@ -45,6 +50,15 @@ channel_in n = cond (nat_le n 3) (Some n) None
 abbrev pub channel_at : List ℕ → ℕ → Result (Option ℕ) Fault
 channel_at s at = cond (next_is s at el.Channel) (and_then (coded_at channel_in s at el.Channel) (λ c. Ok (Some c))) (Ok None)
 
+-- the place after a channel
+abbrev pub after_channel : ℕ → Option ℕ → ℕ
+after_channel at None = at
+after_channel at (Some _) = at + 3
+
 -- a location area
 abbrev pub area_at : List ℕ → ℕ → Element → Result LocationArea Fault
 area_at s at e = and_then (element_at s at e) (λ n. Ok (record { octets = slice_index s (at + 2) ∷ slice_index s (at + 3) ∷ slice_index s (at + 4) ∷ slice_index s (at + 5) ∷ slice_index s (at + 6) ∷ [] }))
+
+-- the place after the last element must be the end
+abbrev pub end_at : {X : Type 0} → List ℕ → ℕ → X → Result X Fault
+end_at s at x = cond (nat_lt at (length s)) (wrong kind.Trailing at) (Ok x)

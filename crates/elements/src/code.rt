@@ -32,11 +32,14 @@ fn either<T: Copy>(octet: u8, first: T, second: T) -> Option<T>
     Some(if octet == 1 { first } else { second })
 }
 
+// Five codes have two cases each. Every line of their impls names what is the code's own, so that a trait of two cases
+// with one impl over it would ask for as many.
+
 // Why a mobile was not paged, or what became of it.
-#[derive(Clone, Copy, PartialEq)]
+#[derive(Clone, Copy, Debug, PartialEq, Eq, Hash)]
 pub enum Cause {
-    NotAttached,
-    MovedToAnotherVlr,
+    NotAttached = 1,
+    MovedToAnotherVlr = 2,
 }
 
 impl Coded for Cause {
@@ -47,10 +50,7 @@ impl Coded for Cause {
     ghost back = { cause_back };
 
     fn octet(self) -> u8 {
-        match self {
-            Cause::NotAttached => 1,
-            Cause::MovedToAnotherVlr => 2,
-        }
+        self as u8
     }
 
     fn from_octet(octet: u8) -> Option<Cause> {
@@ -58,10 +58,10 @@ impl Coded for Cause {
     }
 }
 
-#[derive(Clone, Copy, PartialEq)]
+#[derive(Clone, Copy, Debug, PartialEq, Eq, Hash)]
 pub enum UpdateType {
-    ImsiAttach,
-    Normal,
+    ImsiAttach = 1,
+    Normal = 2,
 }
 
 impl Coded for UpdateType {
@@ -72,10 +72,7 @@ impl Coded for UpdateType {
     ghost back = { update_back };
 
     fn octet(self) -> u8 {
-        match self {
-            UpdateType::ImsiAttach => 1,
-            UpdateType::Normal => 2,
-        }
+        self as u8
     }
 
     fn from_octet(octet: u8) -> Option<UpdateType> {
@@ -84,10 +81,10 @@ impl Coded for UpdateType {
 }
 
 // The class of a mobile that uses packet and voice service: A both at once, B one at a time.
-#[derive(Clone, Copy, PartialEq)]
+#[derive(Clone, Copy, Debug, PartialEq, Eq, Hash)]
 pub enum Class {
-    A,
-    B,
+    A = 1,
+    B = 2,
 }
 
 impl Coded for Class {
@@ -98,10 +95,7 @@ impl Coded for Class {
     ghost back = { class_back };
 
     fn octet(self) -> u8 {
-        match self {
-            Class::A => 1,
-            Class::B => 2,
-        }
+        self as u8
     }
 
     fn from_octet(octet: u8) -> Option<Class> {
@@ -109,10 +103,10 @@ impl Coded for Class {
     }
 }
 
-#[derive(Clone, Copy, PartialEq)]
+#[derive(Clone, Copy, Debug, PartialEq, Eq, Hash)]
 pub enum GprsDetachType {
-    ByNetwork,
-    ByMobile,
+    ByNetwork = 1,
+    ByMobile = 2,
 }
 
 impl Coded for GprsDetachType {
@@ -123,10 +117,7 @@ impl Coded for GprsDetachType {
     ghost back = { gprs_back };
 
     fn octet(self) -> u8 {
-        match self {
-            GprsDetachType::ByNetwork => 1,
-            GprsDetachType::ByMobile => 2,
-        }
+        self as u8
     }
 
     fn from_octet(octet: u8) -> Option<GprsDetachType> {
@@ -135,10 +126,10 @@ impl Coded for GprsDetachType {
 }
 
 // Whether the sender of an IMSI detach wants it acknowledged.
-#[derive(Clone, Copy, PartialEq)]
+#[derive(Clone, Copy, Debug, PartialEq, Eq, Hash)]
 pub enum ImsiDetachType {
-    Unacknowledged,
-    Acknowledged,
+    Unacknowledged = 1,
+    Acknowledged = 2,
 }
 
 impl Coded for ImsiDetachType {
@@ -149,10 +140,7 @@ impl Coded for ImsiDetachType {
     ghost back = { imsi_back };
 
     fn octet(self) -> u8 {
-        match self {
-            ImsiDetachType::Unacknowledged => 1,
-            ImsiDetachType::Acknowledged => 2,
-        }
+        self as u8
     }
 
     fn from_octet(octet: u8) -> Option<ImsiDetachType> {
@@ -165,7 +153,7 @@ impl Coded for ImsiDetachType {
 }
 
 // Why a location update was rejected: 1 to 255. A 0 can be held, and is not written.
-#[derive(Clone, Copy, PartialEq)]
+#[derive(Clone, Copy, Debug, PartialEq, Eq, Hash, PartialOrd, Ord)]
 pub struct RejectCause {
     pub number: u8,
 }
@@ -182,11 +170,7 @@ impl Coded for RejectCause {
     }
 
     fn from_octet(octet: u8) -> Option<RejectCause> {
-        if octet == 0 {
-            None
-        } else {
-            Some(RejectCause { number: octet })
-        }
+        (octet != 0).then_some(RejectCause { number: octet })
     }
 }
 
@@ -204,6 +188,6 @@ impl Coded for NodeNumber {
 
     fn from_octet(octet: u8) -> Option<NodeNumber> {
         let node = NodeNumber { number: octet };
-        if node.is_lawful() { Some(node) } else { None }
+        node.is_lawful().then_some(node)
     }
 }

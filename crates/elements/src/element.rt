@@ -2,40 +2,27 @@
 ghost use Rattle.std.specs.Prelude.{◌≡◌};
 ghost use Rattle.elements.specs.Table.{identifier_of, least_of, most_of};
 
-#[derive(Clone, Copy)]
+#[derive(Clone, Copy, Debug, PartialEq, Eq, Hash, PartialOrd, Ord)]
 pub enum Element {
-    Imsi,
-    Tmsi,
-    Cause,
-    UpdateType,
-    OldArea,
-    NewArea,
-    Class,
-    RejectCause,
-    GprsDetachType,
-    ImsiDetachType,
-    Entity,
-    Channel,
+    Imsi = 0x01,
+    Tmsi = 0x02,
+    Cause = 0x03,
+    UpdateType = 0x04,
+    OldArea = 0x05,
+    NewArea = 0x06,
+    Class = 0x07,
+    RejectCause = 0x08,
+    GprsDetachType = 0x09,
+    ImsiDetachType = 0x0A,
+    Entity = 0x0B,
+    Channel = 0x0C,
 }
 
 impl Element {
     pub fn identifier(self) -> u8
         ensures { result ≡ identifier_of self }
     {
-        match self {
-            Element::Imsi => 0x01,
-            Element::Tmsi => 0x02,
-            Element::Cause => 0x03,
-            Element::UpdateType => 0x04,
-            Element::OldArea => 0x05,
-            Element::NewArea => 0x06,
-            Element::Class => 0x07,
-            Element::RejectCause => 0x08,
-            Element::GprsDetachType => 0x09,
-            Element::ImsiDetachType => 0x0A,
-            Element::Entity => 0x0B,
-            Element::Channel => 0x0C,
-        }
+        self as u8
     }
 
     // The fewest content octets.

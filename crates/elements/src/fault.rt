@@ -3,50 +3,47 @@ ghost use Rattle.std.specs.Prelude.{◌≡◌};
 ghost use Rattle.elements.specs.Faults.{fault_number, fault_layer, wrong};
 
 // The part of the format that a fault belongs to.
-#[derive(Clone, Copy, PartialEq)]
+#[derive(Clone, Copy, Debug, PartialEq, Eq, Hash)]
 pub enum Layer {
     Frame,
     Message,
 }
 
-#[derive(Clone, Copy, PartialEq)]
+// Each kind has the number by which users know it.
+#[derive(Clone, Copy, Debug, PartialEq, Eq, Hash, PartialOrd, Ord)]
 pub enum FaultKind {
     // a frame has not 11 to 64 octets
-    FrameSize,
+    FrameSize = 20,
     // a node number is unlawful, or both are equal
-    Nodes,
+    Nodes = 21,
     // the stamp is 0
-    Stamp,
+    Stamp = 22,
     // the message type is not in the table
-    MessageType,
+    MessageType = 23,
     // the element that must come next has another identifier
-    Identifier,
+    Identifier = 24,
     // a length that the element or the end of the octets forbids
-    Length,
+    Length = 25,
     // contents that the element forbids
-    Contents,
+    Contents = 26,
     // octets after the last element
-    Trailing,
+    Trailing = 27,
     // the buffer to write into is shorter than the longest frame
-    Buffer,
+    Buffer = 28,
 }
 
 impl FaultKind {
-    // The number by which users know this fault.
     pub fn number(self) -> u8
         ensures { result ≡ fault_number self }
     {
-        match self {
-            FaultKind::FrameSize => 20,
-            FaultKind::Nodes => 21,
-            FaultKind::Stamp => 22,
-            FaultKind::MessageType => 23,
-            FaultKind::Identifier => 24,
-            FaultKind::Length => 25,
-            FaultKind::Contents => 26,
-            FaultKind::Trailing => 27,
-            FaultKind::Buffer => 28,
-        }
+        self as u8
+    }
+
+    // This fault, at this place.
+    pub fn at(self, place: usize) -> Fault
+        ensures { result ≡ record { kind = self; place = place } }
+    {
+        Fault { kind: self, place }
     }
 
     pub fn layer(self) -> Layer
@@ -65,7 +62,7 @@ impl FaultKind {
 }
 
 // A fault and its place, counted from 0 in the octets that were handed in.
-#[derive(Clone, Copy, PartialEq)]
+#[derive(Clone, Copy, Debug, PartialEq, Eq, Hash)]
 pub struct Fault {
     pub kind: FaultKind,
     pub place: usize,
@@ -75,5 +72,5 @@ pub struct Fault {
 pub fn refused<X>(kind: FaultKind, place: usize) -> Result<X, Fault>
     ensures { result ≡ wrong kind place }
 {
-    Err(Fault { kind, place })
+    Err(kind.at(place))
 }

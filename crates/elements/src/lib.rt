@@ -6,4 +6,4 @@ pub mod code;
 pub mod element;
 pub mod fault;
 pub mod node;
-pub mod reading;
+pub mod reader;

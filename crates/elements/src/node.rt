@@ -3,7 +3,7 @@ ghost use Rattle.std.specs.Prelude.{◌≡◌, ◌≤◌};
 ghost use Rattle.elements.specs.Nodes.{lawful_node, same_node};
 
 // A node's number as a frame carries it. Any number can be held; `is_lawful` says whether a node can have it.
-#[derive(Clone, Copy, PartialEq, Eq)]
+#[derive(Clone, Copy, Debug, PartialEq, Eq, Hash, PartialOrd, Ord)]
 pub struct NodeNumber {
     pub number: u8,
 }
@@ -18,18 +18,18 @@ impl NodeNumber {
     pub fn is(self, other: NodeNumber) -> bool
         ensures { result ≡ same_node self other }
     {
-        self.number == other.number
+        self == other
     }
 }
 
 // The number of a node that is an SGSN.
-#[derive(Clone, Copy, PartialEq, Eq)]
+#[derive(Clone, Copy, Debug, PartialEq, Eq, Hash)]
 pub struct SgsnNumber {
     pub node: NodeNumber,
 }
 
 // The number of a node that is a VLR. Never taken where an SGSN's number is meant, nor the other way round.
-#[derive(Clone, Copy, PartialEq, Eq)]
+#[derive(Clone, Copy, Debug, PartialEq, Eq, Hash)]
 pub struct VlrNumber {
     pub node: NodeNumber,
 }

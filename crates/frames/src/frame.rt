@@ -4,7 +4,7 @@ use messages::message::Message;
 
 // Source and destination are plain node numbers, since either end may be an SGSN or a VLR.
 // `answers` is the stamp of the frame that this one answers, 0 for none.
-#[derive(Clone, Copy, PartialEq)]
+#[derive(Clone, Copy, PartialEq, Eq)]
 pub struct Frame {
     pub source: NodeNumber,
     pub destination: NodeNumber,
@@ -14,7 +14,7 @@ pub struct Frame {
 }
 
 // What stands in front of the message.
-#[derive(Clone, Copy)]
+#[derive(Clone, Copy, Debug, PartialEq, Eq)]
 pub struct Header {
     pub source: NodeNumber,
     pub destination: NodeNumber,

@@ -1,25 +1,17 @@
 // Octets to frames.
-ghost use Rattle.std.specs.Prelude.{◌≡◌, ◌+◌, ◌≤◌, length};
-ghost use Rattle.elements.specs.Reading.{number_at};
+ghost use Rattle.std.specs.Prelude.{◌≡◌};
 ghost use Rattle.frames.specs.Format.{header_read, frame_in, ReadsExactly, AlwaysExactly};
 
 use crate::frame::{Frame, Header};
-use elements::fault::{Fault, FaultKind, refused};
+use elements::fault::{Fault, FaultKind};
 use elements::node::NodeNumber;
-use messages::reading::read_message_in_frame;
+use elements::reader::{Reader, number_at};
+use messages::reading::{IN_FRAME, read_message};
 
 // A frame has this many octets at least, its own ten and a message type, and this many at most.
 const SHORTEST: usize = 11;
 
 const LONGEST: usize = 64;
-
-// The number in the four octets from `at` on.
-fn number(octets: &[u8], at: usize) -> u32
-    requires { at + 4 ≤ length octets.now }
-    ensures { result ≡ number_at octets.now at }
-{
-    u32::from_be_bytes([octets[at], octets[at + 1], octets[at + 2], octets[at + 3]])
-}
 
 // Nodes and stamps, or the first fault among them.
 fn header(octets: &[u8]) -> Result<Header, Fault>
@@ -27,31 +19,32 @@ fn header(octets: &[u8]) -> Result<Header, Fault>
 {
     let size = octets.len();
     if size < SHORTEST {
-        return refused(FaultKind::FrameSize, size);
+        return Err(FaultKind::FrameSize.at(size));
     }
     if size > LONGEST {
-        return refused(FaultKind::FrameSize, LONGEST);
+        return Err(FaultKind::FrameSize.at(LONGEST));
     }
     let source = NodeNumber { number: octets[0] };
     let destination = NodeNumber { number: octets[1] };
     if !source.is_lawful() {
-        return refused(FaultKind::Nodes, 0);
+        return Err(FaultKind::Nodes.at(0));
     }
     if !destination.is_lawful() {
-        return refused(FaultKind::Nodes, 1);
+        return Err(FaultKind::Nodes.at(1));
     }
-    if source.is(destination) {
-        return refused(FaultKind::Nodes, 0);
+    if source == destination {
+        return Err(FaultKind::Nodes.at(0));
     }
-    let stamp = number(octets, 2);
+    let stamp = number_at(octets, 2).ok_or(FaultKind::FrameSize.at(size))?;
     if stamp == 0 {
-        return refused(FaultKind::Stamp, 2);
+        return Err(FaultKind::Stamp.at(2));
     }
+    let answers = number_at(octets, 6).ok_or(FaultKind::FrameSize.at(size))?;
     Ok(Header {
         source,
         destination,
         stamp,
-        answers: number(octets, 6),
+        answers,
     })
 }
 
@@ -75,7 +68,11 @@ pub fn read_frame(octets: &[u8]) -> Result<Frame, Fault>
         stamp,
         answers,
     } = header(octets)?;
-    let message = read_message_in_frame(octets)?;
+    let from = Reader {
+        octets,
+        at: IN_FRAME,
+    };
+    let message = read_message(from)?;
     Ok(Frame {
         source,
         destination,

@@ -9,18 +9,18 @@ use Rattle.elements.specs.declared.code.RejectCause.{RejectCause}
 use Rattle.elements.specs.Codes.{cause_in, cause_octet, update_in, update_octet, class_in, class_octet, gprs_detach_in, gprs_detach_octet, imsi_detach_in, imsi_detach_octet, reject_in, entity_in}
 use Rattle.elements.specs.Faults.{and_then}
 use Rattle.elements.specs.Nodes.{lawful_node}
-use Rattle.elements.specs.Reading.{coded_at, tmsi_at, channel_at, area_at}
+use Rattle.elements.specs.Reading.{coded_at, tmsi_at, channel_at, area_at, after_tmsi, after_channel}
 use Rattle.elements.specs.Spelling.{imsi_element, octet_element, area_element, tmsi_element, channel_element}
 use Rattle.elements.specs.Table.{least_of, most_of}
 use Rattle.elements.proofs.Areas.{area_read}
 use Rattle.elements.proofs.Chains.{then_ok, same_ok, fault_ok}
 use Rattle.elements.specs.Backs.{cause_back, update_back, class_back, gprs_back, imsi_back, reject_back, entity_back}
 use Rattle.elements.proofs.Elements.{coded_read}
-use Rattle.elements.proofs.Optional.{tmsi_read, channel_read, tmsi_size, channel_size}
+use Rattle.elements.proofs.Optional.{tmsi_read, channel_read}
 use Rattle.messages.specs.declared.message.Message.{Message}
 use Rattle.messages.specs.declared.message.Message.TheVariants.{Paging, PagingFailure, MobileStatus, LuRequest, LuAccept, LuReject, Reset, ResetAcknowledge, GprsDetachIndication, GprsDetachAcknowledge, ImsiDetachIndication, ImsiDetachAcknowledge}
 use Rattle.messages.specs.Lawful.{lawful_mobile, lawful_tmsi, lawful_channel, lawful_message}
-use Rattle.messages.specs.Reading.{after_imsi, after_tmsi, after_channel, mobile_at, imsi_and_at, paging_at, lu_request_at, lu_accept_at, entity_at, body_at, message_at}
+use Rattle.messages.specs.Reading.{after_imsi, mobile_at, imsi_and_at, paging_at, lu_request_at, lu_accept_at, entity_at, body_at, message_at}
 use Rattle.messages.specs.Spelling.{octets_of, Spells}
 use Rattle.messages.proofs.Parts.{type_read, by_type, mobile_read, imsi_and_read, end_read}
 
@@ -35,14 +35,6 @@ lawful_tmsi_lem (Some n) h = lt-ltb n 4294967296 (h n refl)
 lawful_channel_lem : (c : Option ℕ) → ((n : ℕ) → c ≡ Some n → n ≤ 3) → lawful_channel c ≡ true
 lawful_channel_lem None h = refl
 lawful_channel_lem (Some n) h = le-leb n 3 (h n refl)
-
-after_tmsi_back : (at : ℕ) (t : Option ℕ) → at + tmsi_size t ≡ after_tmsi at t
-after_tmsi_back at None = omega arith
-after_tmsi_back at (Some n) = refl
-
-after_channel_back : (at : ℕ) (c : Option ℕ) → at + channel_size c ≡ after_channel at c
-after_channel_back at None = omega arith
-after_channel_back at (Some n) = refl
 
 paging_back : (s : List ℕ) (at : ℕ) (m : Message) → ((k : ℕ) → get_or s k 0 < 256) → paging_at s at ≡ Ok m → After 0 (drop at s) m
 paging_back s at m o r =
@@ -59,8 +51,8 @@ paging_back s at m o r =
     let ch = channel_read s p2 c d.1 in
     let p3 = after_channel p2 c in
     let fin = end_read s p3 (Paging i t c) m d.2 in
-    let e3 = ch.is ∙ ap (λ n. channel_element c ++ drop n s) (after_channel_back p2 c) ∙ ap (λ x. channel_element c ++ x) fin.0 ∙ append-nil (channel_element c) in
-    let e2 = tm.is ∙ ap (λ n. tmsi_element t ++ drop n s) (after_tmsi_back p1 t) ∙ ap (λ x. tmsi_element t ++ x) e3 in
+    let e3 = ch.is ∙ ap (λ x. channel_element c ++ x) fin.0 ∙ append-nil (channel_element c) in
+    let e2 = tm.is ∙ ap (λ x. tmsi_element t ++ x) e3 in
     subst (After 0 (drop at s)) fin.1
     (and_from _ _ mo.lawful (and_from _ _ (lawful_tmsi_lem t tm.small) (lawful_channel_lem c ch.small)), ap (λ x. 0 ∷ x) (sym (mo.is ∙ ap (λ x. imsi_element i ++ x) e2)))
 

@@ -1,4 +1,5 @@
 pub mod Buffers
+pub mod Types
 pub mod Parts
 pub mod There
 pub mod Back

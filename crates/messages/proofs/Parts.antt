@@ -6,14 +6,14 @@ use Rattle.imsi.specs.declared.Imsi.{Imsi}
 use Rattle.imsi.proofs.Spelt.{length-octets}
 use Rattle.elements.specs.declared.element.Element.{Element}
 use Rattle.elements.specs.declared.fault.Fault.{Fault}
-use Rattle.elements.specs.Reading.{coded_at, imsi_at}
+use Rattle.elements.specs.Reading.{coded_at, imsi_at, end_at}
 use Rattle.elements.specs.Spelling.{imsi_element, octet_element}
 use Rattle.elements.specs.Table.{least_of, most_of}
 use Rattle.elements.proofs.Chains.{then_there, then_ok, same_ok, fault_ok, at-drop, drop_size, past}
 use Rattle.elements.proofs.Elements.{coded_there, coded_read, imsi_there, imsi_read}
 use Rattle.messages.specs.declared.message.Message.{Message}
 use Rattle.messages.specs.Lawful.{lawful_mobile}
-use Rattle.messages.specs.Reading.{end_at, imsi_of, after_imsi, mobile_at, imsi_and_at, body_at, message_at}
+use Rattle.messages.specs.Reading.{imsi_of, after_imsi, mobile_at, imsi_and_at, body_at, message_at}
 
 -- the type octet chooses
 pub type_there : (s xs : List ℕ) (at t : ℕ) → drop at s ≡ t ∷ xs → message_at s at ≡ body_at s at t

@@ -18,7 +18,8 @@ use Rattle.elements.proofs.Optional.{tmsi_there, channel_there}
 use Rattle.messages.specs.declared.message.Message.{Message}
 use Rattle.messages.specs.declared.message.Message.TheVariants.{Paging, PagingFailure, MobileStatus, LuRequest, LuAccept, LuReject, Reset, ResetAcknowledge, GprsDetachIndication, GprsDetachAcknowledge, ImsiDetachIndication, ImsiDetachAcknowledge}
 use Rattle.messages.specs.Lawful.{lawful_mobile, lawful_tmsi, lawful_channel, lawful_area, lawful_reject, lawful_message}
-use Rattle.messages.specs.Reading.{after_imsi, after_tmsi, after_channel, paging_at, lu_request_at, lu_accept_at, entity_at, message_at}
+use Rattle.elements.specs.Reading.{after_tmsi, after_channel}
+use Rattle.messages.specs.Reading.{after_imsi, paging_at, lu_request_at, lu_accept_at, entity_at, message_at}
 use Rattle.messages.specs.Spelling.{octets_of}
 use Rattle.messages.proofs.Parts.{type_there, mobile_there, mobile_past, imsi_and_there, end_there}
 

@@ -1,3 +1,4 @@
+pub mod Kinds
 pub mod Lawful
 pub mod Spelling
 pub mod Reading

@@ -1,5 +1,5 @@
 -- Reading a message: the first fault in the order of the octets, or the message.
-use Rattle.std.specs.Prelude.{◌≡◌, ℕ, ◌+◌, ◌/◌, cond, List, length, Some, None, Ok, Option, Result, ◌==◌, nat_lt, slice_index}
+use Rattle.std.specs.Prelude.{◌≡◌, ℕ, ◌+◌, ◌/◌, cond, List, length, Ok, Option, Result, ◌==◌, nat_lt, slice_index}
 use Rattle.imsi.specs.declared.Imsi.{Imsi}
 use Rattle.elements.specs.declared.element.Element.{Element}
 use Rattle.elements.specs.declared.element.Element.TheVariants as el
@@ -8,14 +8,10 @@ use Rattle.elements.specs.declared.fault.FaultKind.TheVariants as kind
 use Rattle.elements.specs.declared.node.NodeNumber.{NodeNumber}
 use Rattle.elements.specs.Codes.{cause_in, update_in, class_in, gprs_detach_in, imsi_detach_in, reject_in, entity_in}
 use Rattle.elements.specs.Faults.{wrong, and_then}
-use Rattle.elements.specs.Reading.{coded_at, imsi_at, tmsi_at, channel_at, area_at}
+use Rattle.elements.specs.Reading.{coded_at, imsi_at, after_tmsi, tmsi_at, after_channel, channel_at, area_at, end_at}
 use Rattle.messages.specs.declared.message.Message.{Message}
 use Rattle.messages.specs.declared.message.Message.TheVariants.{Paging, PagingFailure, MobileStatus, LuRequest, LuAccept, LuReject, Reset, ResetAcknowledge, GprsDetachIndication, GprsDetachAcknowledge, ImsiDetachIndication, ImsiDetachAcknowledge}
 use Rattle.messages.specs.Spelling.{Spells}
-
--- the place after the last element must be the end
-abbrev pub end_at : {X : Type 0} → List ℕ → ℕ → X → Result X Fault
-end_at s at x = cond (nat_lt at (length s)) (wrong kind.Trailing at) (Ok x)
 
 abbrev pub imsi_of : ℕ × ℕ → Imsi
 imsi_of p = record { digits = p.0; value = p.1 }
@@ -33,14 +29,6 @@ imsi_and_at of e s at =
     and_then (mobile_at s at) (λ i.
     and_then (coded_at of s (after_imsi at i) e) (λ x.
     end_at s (after_imsi at i + 3) (i, x)))
-
-abbrev pub after_tmsi : ℕ → Option ℕ → ℕ
-after_tmsi at None = at
-after_tmsi at (Some _) = at + 6
-
-abbrev pub after_channel : ℕ → Option ℕ → ℕ
-after_channel at None = at
-after_channel at (Some _) = at + 3
 
 abbrev pub paging_at : List ℕ → ℕ → Result Message Fault
 paging_at s at =

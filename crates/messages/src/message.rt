@@ -1,8 +1,10 @@
 // What a message says.
 ghost use Rattle.std.specs.Prelude.{◌≡◌};
 ghost use Rattle.messages.specs.Lawful.{lawful_message};
+ghost use Rattle.messages.specs.Kinds.{kind_of};
 ghost use Rattle.messages.specs.Spelling.{type_of};
 
+use crate::kind::MessageType;
 use elements::area::LocationArea;
 use elements::code::{
     Cause, Class, Coded, GprsDetachType, ImsiDetachType, RejectCause, UpdateType,
@@ -36,7 +38,7 @@ pub const IMSI_DETACH_INDICATION: u8 = 0x11;
 pub const IMSI_DETACH_ACKNOWLEDGE: u8 = 0x12;
 
 // A message. An absent TMSI or channel differs from zero. LU is a location update.
-#[derive(Clone, Copy, PartialEq)]
+#[derive(Clone, Copy, PartialEq, Eq)]
 pub enum Message {
     Paging {
         imsi: Imsi,
@@ -91,23 +93,29 @@ pub enum Message {
 }
 
 impl Message {
+    pub fn kind(self) -> MessageType
+        ensures { result ≡ kind_of self }
+    {
+        match self {
+            Message::Paging { .. } => MessageType::Paging,
+            Message::PagingFailure { .. } => MessageType::PagingFailure,
+            Message::MobileStatus { .. } => MessageType::MobileStatus,
+            Message::LuRequest { .. } => MessageType::LuRequest,
+            Message::LuAccept { .. } => MessageType::LuAccept,
+            Message::LuReject { .. } => MessageType::LuReject,
+            Message::Reset { .. } => MessageType::Reset,
+            Message::ResetAcknowledge { .. } => MessageType::ResetAcknowledge,
+            Message::GprsDetachIndication { .. } => MessageType::GprsDetachIndication,
+            Message::GprsDetachAcknowledge { .. } => MessageType::GprsDetachAcknowledge,
+            Message::ImsiDetachIndication { .. } => MessageType::ImsiDetachIndication,
+            Message::ImsiDetachAcknowledge { .. } => MessageType::ImsiDetachAcknowledge,
+        }
+    }
+
     pub fn type_octet(self) -> u8
         ensures { result ≡ type_of self }
     {
-        match self {
-            Message::Paging { .. } => PAGING,
-            Message::PagingFailure { .. } => PAGING_FAILURE,
-            Message::MobileStatus { .. } => MOBILE_STATUS,
-            Message::LuRequest { .. } => LU_REQUEST,
-            Message::LuAccept { .. } => LU_ACCEPT,
-            Message::LuReject { .. } => LU_REJECT,
-            Message::Reset { .. } => RESET,
-            Message::ResetAcknowledge { .. } => RESET_ACKNOWLEDGE,
-            Message::GprsDetachIndication { .. } => GPRS_DETACH_INDICATION,
-            Message::GprsDetachAcknowledge { .. } => GPRS_DETACH_ACKNOWLEDGE,
-            Message::ImsiDetachIndication { .. } => IMSI_DETACH_INDICATION,
-            Message::ImsiDetachAcknowledge { .. } => IMSI_DETACH_ACKNOWLEDGE,
-        }
+        self.kind().octet()
     }
 
     // Can this be written? Its IMSI, channel, reject cause and entity must be lawful; the rest always is.
@@ -115,33 +123,19 @@ impl Message {
         ensures { result ≡ lawful_message self }
     {
         match self {
-            Message::Paging {
-                imsi,
-                tmsi: _,
-                channel,
-            } => {
-                imsi.is_lawful()
-                    && match channel {
-                        Some(number) => number <= 3,
-                        None => true,
-                    }
+            Message::Paging { imsi, channel, .. } => {
+                imsi.is_lawful() && channel.is_none_or(|number| number <= 3)
             }
-            Message::PagingFailure { imsi, cause: _ } | Message::MobileStatus { imsi, cause: _ } =>
-                imsi.is_lawful(),
-            Message::LuRequest {
-                imsi,
-                update: _,
-                old_area: _,
-                new_area: _,
-                class: _,
-            } => imsi.is_lawful(),
-            Message::LuAccept { imsi, new_area: _ } => imsi.is_lawful(),
             Message::LuReject { imsi, cause } => imsi.is_lawful() && cause.number != 0,
             Message::Reset { entity } | Message::ResetAcknowledge { entity } => entity.is_lawful(),
-            Message::GprsDetachIndication { imsi, detach: _ }
-            | Message::GprsDetachAcknowledge { imsi, detach: _ } => imsi.is_lawful(),
-            Message::ImsiDetachIndication { imsi, detach: _ }
-            | Message::ImsiDetachAcknowledge { imsi, detach: _ } => imsi.is_lawful(),
+            Message::PagingFailure { imsi, .. }
+            | Message::MobileStatus { imsi, .. }
+            | Message::LuRequest { imsi, .. }
+            | Message::LuAccept { imsi, .. }
+            | Message::GprsDetachIndication { imsi, .. }
+            | Message::GprsDetachAcknowledge { imsi, .. }
+            | Message::ImsiDetachIndication { imsi, .. }
+            | Message::ImsiDetachAcknowledge { imsi, .. } => imsi.is_lawful(),
         }
     }
 }
