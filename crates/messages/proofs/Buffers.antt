@@ -2,7 +2,8 @@
 use Rattle.std.proofs.Common.{◌≡◌, ℕ, ◌+◌, ◌-◌, ◌≤◌, List, [], ◌++◌, length, take, drop, sym, ap, ◌∙◌, append_assoc, add-zero, arith}
 use borrow.Rule.Slice.PartMut.{put_mid}
 use Rattle.std.proofs.lemmas.List.{length-append, length-take-le, take_at, drop_at, drop-drop, take-append-drop}
-use Rattle.messages.specs.Writing.{overlaid, Wrote}
+use Rattle.messages.specs.declared.put.Writer.{Writer}
+use Rattle.messages.specs.Writing.{overlaid, Wrote, Puts}
 
 overlaid_none : (at : ℕ) (b : List ℕ) → overlaid at [] b ≡ b
 overlaid_none at b = ap (λ n. take at b ++ drop n b) (add-zero at) ∙ take-append-drop at b
@@ -35,3 +36,14 @@ wrote_more {at} {n} {m} {xs} {ys} {b} {b1} {b2} w v h = record {
   next_at = omega (arith, length-append xs ys, w.next_at, v.next_at);
   octets = v.octets ∙ ap (overlaid n ys) w.octets ∙ overlaid_more b at n xs ys w.next_at h;
 }
+
+pub puts_more : {n m : ℕ} {xs ys : List ℕ} {a b c : Writer} → Puts n xs a b → Puts m ys b c → Puts (n + m) (xs ++ ys) a c
+puts_more {n} {m} {xs} {ys} {a} {b} {c} p q = record {
+  few = omega (arith, length-append xs ys, p.few, q.few);
+  wrote = wrote_more p.wrote q.wrote (omega (arith, b.within, p.long));
+  long = q.long ∙ p.long;
+  same_buffer = q.same_buffer ∙ p.same_buffer;
+}
+
+pub puts_few : {n : ℕ} {xs : List ℕ} {a b : Writer} (m : ℕ) → Puts n xs a b → n ≤ m → Puts m xs a b
+puts_few m p h = record { few = omega (arith, p.few); wrote = p.wrote; long = p.long; same_buffer = p.same_buffer }
