@@ -1,5 +1,5 @@
 // Octets put into a buffer, one element after another.
-ghost use Rattle.std.specs.Prelude.{◌≡◌, ◌≤◌, true, length};
+ghost use Rattle.std.specs.Prelude.{◌≡◌, ◌+◌, ◌<◌, ◌≤◌, true, ◌∷◌, length};
 
 use elements::area::LocationArea;
 use elements::code::Coded;
@@ -17,6 +17,7 @@ pub(crate) struct Writer<'a> {
 
 impl Writer<'_> {
     ghost use Rattle.elements.specs.Spelling.{imsi_element, octet_element, area_element, tmsi_element, channel_element};
+    ghost use Rattle.elements.specs.Table.{identifier_of};
     ghost use Rattle.messages.specs.Lawful.{lawful_mobile};
     ghost use Rattle.messages.specs.Writing.{HasRoom, Puts};
 
@@ -30,7 +31,16 @@ impl Writer<'_> {
         self.at = end;
     }
 
-    // An IMSI.
+    // An identifier, a count of octets and the octets.
+    fn element(&mut self, element: Element, contents: &[u8])
+        requires count { length contents.now < 256 }
+        requires room { HasRoom self.old (2 + length contents.now) }
+        ensures { Puts (2 + length contents.now) (identifier_of element ∷ length contents.now ∷ contents.now) self.old self.new }
+    {
+        self.put(&[element.identifier(), contents.len() as u8]);
+        self.put(contents);
+    }
+
     pub(crate) fn imsi(&mut self, imsi: Imsi)
         requires lawful { lawful_mobile imsi ≡ true }
         requires room { HasRoom self.old 10 }
@@ -38,53 +48,41 @@ impl Writer<'_> {
     {
         // A lawful IMSI has octets.
         let spelt = octets_of(imsi).unwrap();
-        self.put(&[Element::Imsi.identifier(), spelt.count as u8]);
-        self.put(&spelt.octets[..spelt.count]);
+        self.element(Element::Imsi, &spelt.octets[..spelt.count]);
     }
 
-    // An element of one octet that stands for `value`.
+    // The octet that stands for `value`.
     pub(crate) fn code<C: Coded>(&mut self, element: Element, value: C)
         requires { HasRoom self.old 3 }
         ensures { Puts 3 (octet_element element (C.octet_of value)) self.old self.new }
     {
-        self.octet(element, value.octet());
+        self.element(element, &[value.octet()]);
     }
 
-    // An element of one octet.
-    fn octet(&mut self, element: Element, octet: u8)
-        requires { HasRoom self.old 3 }
-        ensures { Puts 3 (octet_element element octet) self.old self.new }
-    {
-        self.put(&[element.identifier(), 1, octet]);
-    }
-
-    // A location area.
     pub(crate) fn area(&mut self, element: Element, area: LocationArea)
         requires { HasRoom self.old 7 }
         ensures { Puts 7 (area_element element area) self.old self.new }
     {
-        let [a, b, c, d, e] = area.octets;
-        self.put(&[element.identifier(), 5, a, b, c, d, e]);
+        self.element(element, &area.octets);
     }
 
-    // A TMSI, or nothing where it is absent.
+    // Nothing where it is absent.
     pub(crate) fn tmsi(&mut self, tmsi: Option<u32>)
         requires { HasRoom self.old 6 }
         ensures { Puts 6 (tmsi_element tmsi) self.old self.new }
     {
         if let Some(number) = tmsi {
-            let [a, b, c, d] = number.to_be_bytes();
-            self.put(&[Element::Tmsi.identifier(), 4, a, b, c, d]);
+            self.element(Element::Tmsi, &number.to_be_bytes());
         }
     }
 
-    // A channel, or nothing where it is absent.
+    // Nothing where it is absent.
     pub(crate) fn channel(&mut self, channel: Option<u8>)
         requires { HasRoom self.old 3 }
         ensures { Puts 3 (channel_element channel) self.old self.new }
     {
         if let Some(number) = channel {
-            self.octet(Element::Channel, number);
+            self.element(Element::Channel, &[number]);
         }
     }
 }

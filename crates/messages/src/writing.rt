@@ -81,6 +81,7 @@ fn put_message(to: &mut Writer<'_>, message: Message)
 }
 
 // Writes the message from `at` on, or refuses and leaves the buffer as it was.
+// The two places that exist have a public function each: from 34 on a buffer of 64 octets need not hold the message.
 fn write_at(message: Message, buffer: &mut [u8], at: usize) -> Result<usize, Fault>
     requires { at ≤ 10 }
     ensures value { result ≡ written_at at message buffer.old }

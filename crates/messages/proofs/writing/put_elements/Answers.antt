@@ -1,4 +1,4 @@
-use Rattle.std.proofs.Common.{◌≡◌, ⊎_elim, arith}
+use Rattle.std.proofs.Common.{⊎_elim, arith}
 use Rattle.messages.proofs.Buffers.{puts_more, puts_few}
 use Rattle.messages.proofs.writing.put_elements.Goals as goal
 
