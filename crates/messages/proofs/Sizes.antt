@@ -69,15 +69,4 @@ short (ImsiDetachAcknowledge i t) l = imsi_and_short i 18 (imsi_detach_octet t) 
 
 -- every message has its type octet
 pub some : (m : Message) → 1 ≤ length (octets_of m)
-some (Paging i t c) = omega arith
-some (PagingFailure i c) = omega arith
-some (MobileStatus i c) = omega arith
-some (LuRequest i u o n c) = omega arith
-some (LuAccept i n) = omega arith
-some (LuReject i c) = omega arith
-some (Reset e) = omega arith
-some (ResetAcknowledge e) = omega arith
-some (GprsDetachIndication i t) = omega arith
-some (GprsDetachAcknowledge i t) = omega arith
-some (ImsiDetachIndication i t) = omega arith
-some (ImsiDetachAcknowledge i t) = omega arith
+some m = omega arith

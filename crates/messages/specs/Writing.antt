@@ -4,6 +4,7 @@ use Rattle.elements.specs.declared.fault.Fault.{Fault}
 use Rattle.elements.specs.declared.fault.FaultKind.TheVariants as kind
 use Rattle.elements.specs.Faults.{wrong}
 use Rattle.messages.specs.declared.message.Message.{Message}
+use Rattle.messages.specs.declared.put.Writer.{Writer}
 use Rattle.messages.specs.Lawful.{lawful_message}
 use Rattle.messages.specs.Spelling.{octets_of}
 use Rattle.messages.specs.Reading.{message_at}
@@ -16,6 +17,17 @@ overlaid at xs b = take at b ++ (xs ++ drop (at + length xs) b)
 pub record Wrote (at : ℕ) (xs before after : List ℕ) (next : ℕ) : Type 0 where
   pub next_at : next ≡ at + length xs
   pub octets : after ≡ overlaid at xs before
+
+-- n more octets fit behind the writer's place
+abbrev pub HasRoom : Writer → ℕ → Type 0
+HasRoom w n = w.at + n ≤ length w.buffer.now
+
+-- octets, n at most, were written from the writer's place on, and its place is now behind them
+pub record Puts (n : ℕ) (xs : List ℕ) (before after : Writer) : Type 0 where
+  pub few : length xs ≤ n
+  pub wrote : Wrote before.at xs before.buffer.now after.buffer.now after.at
+  pub long : length after.buffer.now ≡ length before.buffer.now
+  pub same_buffer : after.buffer.ghost_name ≡ before.buffer.ghost_name
 
 -- how many octets the buffer must have
 abbrev pub buffer_size : ℕ

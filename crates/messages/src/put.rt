@@ -1,116 +1,88 @@
-// Octets put into a buffer, one element after another. Each function answers the place after what it put.
-ghost use Rattle.std.specs.Prelude.{◌≡◌, ◌+◌, ◌≤◌, true, [], ◌∷◌, ◌++◌, length};
-ghost use Rattle.elements.specs.declared.element.Element.TheVariants.{Entity};
-ghost use Rattle.elements.specs.Spelling.{imsi_element, octet_element, area_element, tmsi_element, channel_element};
-ghost use Rattle.messages.specs.Lawful.{lawful_mobile};
-ghost use Rattle.messages.specs.Writing.{Wrote};
+// Octets put into a buffer, one element after another.
+ghost use Rattle.std.specs.Prelude.{◌≡◌, ◌+◌, ◌<◌, ◌≤◌, true, ◌∷◌, length};
 
 use elements::area::LocationArea;
+use elements::code::Coded;
 use elements::element::Element;
 use imsi::Imsi;
 use imsi::writing::octets_of;
 
-// Copies `octets` into the buffer from `at` on.
-pub(crate) fn put(buffer: &mut [u8], at: usize, octets: &[u8]) -> usize
-    requires { at + length octets.now ≤ length buffer.old }
-    ensures { Wrote at octets.now buffer.old buffer.new result }
-{
-    let end = at + octets.len();
-    buffer[at..end].copy_from_slice(octets);
-    end
+// A buffer, and the place where the next octet goes.
+#[derive(Drop)]
+pub(crate) struct Writer<'a> {
+    pub(crate) buffer: &'a mut [u8],
+    pub(crate) at: usize,
+    ghost within: { at ≤ length buffer.now },
 }
 
-// A type octet and the IMSI behind it.
-pub(crate) fn put_head(buffer: &mut [u8], at: usize, type_octet: u8, imsi: Imsi) -> usize
-    requires lawful { lawful_mobile imsi ≡ true }
-    requires room { at + 11 ≤ length buffer.old }
-    ensures few { result ≤ at + 11 }
-    ensures wrote { Wrote at (type_octet ∷ imsi_element imsi) buffer.old buffer.new result }
-{
-    let Some(spelt) = octets_of(imsi) else {
-        return at;
-    };
-    let next = put(
-        buffer,
-        at,
-        &[type_octet, Element::Imsi.identifier(), spelt.count as u8],
-    );
-    put(buffer, next, &spelt.octets[0..spelt.count])
-}
+impl Writer<'_> {
+    ghost use Rattle.elements.specs.Spelling.{imsi_element, octet_element, area_element, tmsi_element, channel_element};
+    ghost use Rattle.elements.specs.Table.{identifier_of};
+    ghost use Rattle.messages.specs.Lawful.{lawful_mobile};
+    ghost use Rattle.messages.specs.Writing.{HasRoom, Puts};
 
-// An element of one octet.
-pub(crate) fn put_octet(buffer: &mut [u8], at: usize, element: Element, octet: u8) -> usize
-    requires { at + 3 ≤ length buffer.old }
-    ensures few { result ≤ at + 3 }
-    ensures wrote { Wrote at (octet_element element octet) buffer.old buffer.new result }
-{
-    put(buffer, at, &[element.identifier(), 1, octet])
-}
+    // Copies `octets` into the buffer.
+    pub(crate) fn put(&mut self, octets: &[u8])
+        requires { HasRoom self.old (length octets.now) }
+        ensures { Puts (length octets.now) octets.now self.old self.new }
+    {
+        let end = self.at + octets.len();
+        self.buffer[self.at..end].copy_from_slice(octets);
+        self.at = end;
+    }
 
-// A location area.
-pub(crate) fn put_area(buffer: &mut [u8], at: usize, element: Element, area: LocationArea) -> usize
-    requires { at + 7 ≤ length buffer.old }
-    ensures few { result ≤ at + 7 }
-    ensures wrote { Wrote at (area_element element area) buffer.old buffer.new result }
-{
-    let next = put(buffer, at, &[element.identifier(), 5]);
-    put(buffer, next, &area.octets)
-}
+    // An identifier, a count of octets and the octets.
+    fn element(&mut self, element: Element, contents: &[u8])
+        requires count { length contents.now < 256 }
+        requires room { HasRoom self.old (2 + length contents.now) }
+        ensures { Puts (2 + length contents.now) (identifier_of element ∷ length contents.now ∷ contents.now) self.old self.new }
+    {
+        self.put(&[element.identifier(), contents.len() as u8]);
+        self.put(contents);
+    }
 
-// A TMSI, or nothing where it is absent.
-pub(crate) fn put_tmsi(buffer: &mut [u8], at: usize, tmsi: Option<u32>) -> usize
-    requires { at + 6 ≤ length buffer.old }
-    ensures few { result ≤ at + 6 }
-    ensures wrote { Wrote at (tmsi_element tmsi) buffer.old buffer.new result }
-{
-    match tmsi {
-        Some(number) => {
-            let [a, b, c, d] = number.to_be_bytes();
-            put(buffer, at, &[Element::Tmsi.identifier(), 4, a, b, c, d])
+    pub(crate) fn imsi(&mut self, imsi: Imsi)
+        requires lawful { lawful_mobile imsi ≡ true }
+        requires room { HasRoom self.old 10 }
+        ensures { Puts 10 (imsi_element imsi) self.old self.new }
+    {
+        // A lawful IMSI has octets.
+        let spelt = octets_of(imsi).unwrap();
+        self.element(Element::Imsi, &spelt.octets[..spelt.count]);
+    }
+
+    // The octet that stands for `value`.
+    pub(crate) fn code<C: Coded>(&mut self, element: Element, value: C)
+        requires { HasRoom self.old 3 }
+        ensures { Puts 3 (octet_element element (C.octet_of value)) self.old self.new }
+    {
+        self.element(element, &[value.octet()]);
+    }
+
+    pub(crate) fn area(&mut self, element: Element, area: LocationArea)
+        requires { HasRoom self.old 7 }
+        ensures { Puts 7 (area_element element area) self.old self.new }
+    {
+        self.element(element, &area.octets);
+    }
+
+    // Nothing where it is absent.
+    pub(crate) fn tmsi(&mut self, tmsi: Option<u32>)
+        requires { HasRoom self.old 6 }
+        ensures { Puts 6 (tmsi_element tmsi) self.old self.new }
+    {
+        if let Some(number) = tmsi {
+            self.element(Element::Tmsi, &number.to_be_bytes());
         }
-        None => at,
     }
-}
 
-// A channel, or nothing where it is absent.
-pub(crate) fn put_channel(buffer: &mut [u8], at: usize, channel: Option<u8>) -> usize
-    requires { at + 3 ≤ length buffer.old }
-    ensures few { result ≤ at + 3 }
-    ensures wrote { Wrote at (channel_element channel) buffer.old buffer.new result }
-{
-    match channel {
-        Some(number) => put_octet(buffer, at, Element::Channel, number),
-        None => at,
+    // Nothing where it is absent.
+    pub(crate) fn channel(&mut self, channel: Option<u8>)
+        requires { HasRoom self.old 3 }
+        ensures { Puts 3 (channel_element channel) self.old self.new }
+    {
+        if let Some(number) = channel {
+            self.element(Element::Channel, &[number]);
+        }
     }
-}
-
-// A type octet, an IMSI and an element of one octet: the shape of seven of the messages.
-pub(crate) fn put_imsi_and(
-    buffer: &mut [u8],
-    at: usize,
-    type_octet: u8,
-    imsi: Imsi,
-    element: Element,
-    octet: u8,
-) -> usize
-    requires lawful { lawful_mobile imsi ≡ true }
-    requires room { at + 14 ≤ length buffer.old }
-    ensures few { result ≤ at + 14 }
-    ensures wrote { Wrote at (type_octet ∷ imsi_element imsi ++ octet_element element octet) buffer.old buffer.new result }
-{
-    let next = put_head(buffer, at, type_octet, imsi);
-    put_octet(buffer, next, element, octet)
-}
-
-// A type octet and an entity.
-pub(crate) fn put_entity(buffer: &mut [u8], at: usize, type_octet: u8, octet: u8) -> usize
-    requires { at + 4 ≤ length buffer.old }
-    ensures few { result ≤ at + 4 }
-    ensures wrote { Wrote at (type_octet ∷ octet_element Entity octet) buffer.old buffer.new result }
-{
-    put(
-        buffer,
-        at,
-        &[type_octet, Element::Entity.identifier(), 1, octet],
-    )
 }

@@ -1,40 +1,37 @@
 // Messages to octets.
-ghost use Rattle.std.specs.Prelude.{◌≡◌, ◌+◌, ◌≤◌, true, length};
-ghost use Rattle.messages.specs.declared.message.Message.TheVariants.{Paging, LuRequest};
+ghost use Rattle.std.specs.Prelude.{◌≡◌, ◌≤◌, true};
 ghost use Rattle.messages.specs.Lawful.{lawful_message};
-ghost use Rattle.messages.specs.Spelling.{octets_of};
-ghost use Rattle.messages.specs.Writing.{Wrote, written_at, left_at, ReadBack};
+ghost use Rattle.messages.specs.Spelling.{elements_of, octets_of};
+ghost use Rattle.messages.specs.Writing.{HasRoom, Puts, written_at, left_at, ReadBack};
 
 use crate::message::Message;
-use crate::put::{put_area, put_channel, put_entity, put_head, put_imsi_and, put_octet, put_tmsi};
+use crate::put::Writer;
 use crate::reading::IN_FRAME;
-use elements::code::Coded;
 use elements::element::Element;
-use elements::fault::{Fault, FaultKind, refused};
+use elements::fault::{Fault, FaultKind};
 
 // The buffer must hold the longest frame, whatever is written into it.
 pub const BUFFER_SIZE: usize = 64;
 
-// Puts a lawful message from `at` on.
-fn put_message(buffer: &mut [u8], at: usize, message: Message) -> usize
+// Puts what follows the type octet of a lawful message.
+fn put_elements(to: &mut Writer<'_>, message: Message)
     requires lawful { lawful_message message ≡ true }
-    requires room { at + 31 ≤ length buffer.old }
-    ensures few { result ≤ at + 31 }
-    ensures wrote { Wrote at (octets_of message) buffer.old buffer.new result }
+    requires room { HasRoom to.old 30 }
+    ensures { Puts 30 (elements_of message) to.old to.new }
 {
-    let head = message.type_octet();
     match message {
         Message::Paging {
             imsi,
             tmsi,
             channel,
         } => {
-            let next = put_head(buffer, at, head, imsi);
-            let next = put_tmsi(buffer, next, tmsi);
-            put_channel(buffer, next, channel)
+            to.imsi(imsi);
+            to.tmsi(tmsi);
+            to.channel(channel);
         }
         Message::PagingFailure { imsi, cause } | Message::MobileStatus { imsi, cause } => {
-            put_imsi_and(buffer, at, head, imsi, Element::Cause, cause.octet())
+            to.imsi(imsi);
+            to.code(Element::Cause, cause);
         }
         Message::LuRequest {
             imsi,
@@ -43,70 +40,69 @@ fn put_message(buffer: &mut [u8], at: usize, message: Message) -> usize
             new_area,
             class,
         } => {
-            let next = put_head(buffer, at, head, imsi);
-            let next = put_octet(buffer, next, Element::UpdateType, update.octet());
-            let next = put_area(buffer, next, Element::OldArea, old_area);
-            let next = put_area(buffer, next, Element::NewArea, new_area);
-            put_octet(buffer, next, Element::Class, class.octet())
+            to.imsi(imsi);
+            to.code(Element::UpdateType, update);
+            to.area(Element::OldArea, old_area);
+            to.area(Element::NewArea, new_area);
+            to.code(Element::Class, class);
         }
         Message::LuAccept { imsi, new_area } => {
-            let next = put_head(buffer, at, head, imsi);
-            put_area(buffer, next, Element::NewArea, new_area)
+            to.imsi(imsi);
+            to.area(Element::NewArea, new_area);
         }
         Message::LuReject { imsi, cause } => {
-            put_imsi_and(buffer, at, head, imsi, Element::RejectCause, cause.octet())
+            to.imsi(imsi);
+            to.code(Element::RejectCause, cause);
         }
         Message::Reset { entity } | Message::ResetAcknowledge { entity } => {
-            put_entity(buffer, at, head, entity.octet())
+            to.code(Element::Entity, entity);
         }
         Message::GprsDetachIndication { imsi, detach }
         | Message::GprsDetachAcknowledge { imsi, detach } => {
-            put_imsi_and(
-                buffer,
-                at,
-                head,
-                imsi,
-                Element::GprsDetachType,
-                detach.octet(),
-            )
+            to.imsi(imsi);
+            to.code(Element::GprsDetachType, detach);
         }
         Message::ImsiDetachIndication { imsi, detach }
         | Message::ImsiDetachAcknowledge { imsi, detach } => {
-            put_imsi_and(
-                buffer,
-                at,
-                head,
-                imsi,
-                Element::ImsiDetachType,
-                detach.octet(),
-            )
+            to.imsi(imsi);
+            to.code(Element::ImsiDetachType, detach);
         }
     }
 }
 
-// Writes the message from `at` on, or refuses and leaves the buffer as it was.
-fn write_checked(message: Message, buffer: &mut [u8], at: usize) -> Result<usize, Fault>
-    requires { at ≤ 10 }
-    ensures value { result ≡ written_at at message buffer.old }
-    ensures octets { buffer.new ≡ left_at at message buffer.old }
+// Puts a lawful message.
+fn put_message(to: &mut Writer<'_>, message: Message)
+    requires lawful { lawful_message message ≡ true }
+    requires room { HasRoom to.old 31 }
+    ensures { Puts 31 (octets_of message) to.old to.new }
 {
-    if !message.is_lawful() {
-        return refused(FaultKind::Contents, 0);
-    }
-    if buffer.len() < BUFFER_SIZE {
-        return refused(FaultKind::Buffer, 0);
-    }
-    Ok(put_message(buffer, at, message))
+    to.put(&[message.type_octet()]);
+    put_elements(to, message);
 }
 
-// The same, with what follows: the message is read back.
+// Writes the message from `at` on, or refuses and leaves the buffer as it was.
+// The two places that exist have a public function each: from 34 on a buffer of 64 octets need not hold the message.
 fn write_at(message: Message, buffer: &mut [u8], at: usize) -> Result<usize, Fault>
     requires { at ≤ 10 }
     ensures value { result ≡ written_at at message buffer.old }
     ensures octets { buffer.new ≡ left_at at message buffer.old }
     ensures back { ReadBack at message buffer.new result }
 {
-    write_checked(message, buffer, at)
+    if !message.is_lawful() {
+        return Err(Fault {
+            kind: FaultKind::Contents,
+            place: 0,
+        });
+    }
+    if buffer.len() < BUFFER_SIZE {
+        return Err(Fault {
+            kind: FaultKind::Buffer,
+            place: 0,
+        });
+    }
+    let mut to = Writer { buffer, at };
+    put_message(&mut to, message);
+    Ok(to.at)
 }
 
 // Writes the message at the front of the buffer, and answers how many octets it has.
