@@ -1,11 +1,9 @@
 -- The row of a route: what is known of it where it stands, and where there is none.
-use Rattle.std.proofs.Common.{◌≡◌, ℕ, zero, suc, ◌<◌, ◌≤◌, Bool, true, false, ◌&&◌, ltb, List, [], ◌∷◌, ◌++◌, length, get_or, set, if◌then◌else◌, Some, None, refl, ap, sym, ◌∙◌, arith}
-use Rattle.std.specs.List.{position_or_len}
+use Rattle.std.proofs.Common.{◌≡◌, ℕ, zero, suc, ◌<◌, Bool, true, false, ◌&&◌, ltb, List, [], ◌∷◌, ◌++◌, length, get_or, set, if◌then◌else◌, Some, None, refl, ap, sym, ◌∙◌, arith}
 use Rattle.std.proofs.lemmas.Bool.{lt-ltb}
-use Rattle.std.proofs.lemmas.Grind.{common_steps}
-use Rattle.std.proofs.lemmas.List.Sums.{fails_before_first}
 use Rattle.std.proofs.lemmas.List.Quantifiers.{position-Some}
 use Rattle.elements.specs.declared.node.NodeNumber.{NodeNumber}
+use Rattle.carrier.proofs.Elements.{none_passes}
 use Rattle.gate.specs.declared.pairs.Pair.{Pair}
 use Rattle.gate.specs.Rows.{is_of, row, spot, last_given_in, known, fresh, noted}
 
@@ -26,11 +24,11 @@ module _ (a b : NodeNumber) (k : ℕ) where
       let no : is_of a b p ≡ false = f 0 (omega arith) in
       rw no (r.0, r.1, ap (λ qs. p ∷ qs) r.2)
 
-  missed : (ps : List Pair) (d : Pair) → ((j : ℕ) → j < length ps → is_of a b (get_or ps j d) ≡ false) → (known ps a b ≡ false) × (last_given_in ps a b ≡ 0) × (noted ps a b k ≡ ps ++ row a b k ∷ [])
-  missed [] d f = (refl, refl, refl)
-  missed (p ∷ ps) d f =
-      let r = missed ps d (λ j lt. f (suc j) (omega arith)) in
-      let no : is_of a b p ≡ false = f 0 (omega arith) in
+  missed : (ps : List Pair) → ((j : ℕ) (d : Pair) → j < length ps → is_of a b (get_or ps j d) ≡ false) → (known ps a b ≡ false) × (last_given_in ps a b ≡ 0) × (noted ps a b k ≡ ps ++ row a b k ∷ [])
+  missed [] f = (refl, refl, refl)
+  missed (p ∷ ps) f =
+      let r = missed ps (λ j d lt. f (suc j) d (omega arith)) in
+      let no : is_of a b p ≡ false = f 0 p (omega arith) in
       rw no (r.0, r.1, ap (λ qs. p ∷ qs) r.2)
 
   pub known_row : (ps : List Pair) (i : ℕ) → spot a b ps ≡ Some i → (ltb (get_or ps i blank).stamp k ≡ fresh ps a b k) × (set ps i (row a b k) ≡ noted ps a b k)
@@ -39,13 +37,7 @@ module _ (a b : NodeNumber) (k : ℕ) where
       let r = found i ps blank p.0 p.1 p.2 in
       (rw (r.0, r.1) (and_true _), sym r.2)
 
-  no_row : (ps : List Pair) → spot a b ps ≡ None → (known ps a b ≡ false) × (last_given_in ps a b ≡ 0) × (noted ps a b k ≡ ps ++ row a b k ∷ [])
-  no_row [] at = (refl, refl, refl)
-  no_row (p ∷ ps) at =
-      let past : length (p ∷ ps) ≤ position_or_len (is_of a b) (p ∷ ps) = grind (arith, common_steps) in
-      missed (p ∷ ps) p (λ j lt. fails_before_first (is_of a b) (p ∷ ps) j p (omega arith))
-
   -- t says whether a new row found room
   pub new_row : (t : Bool) (ps qs : List Pair) → spot a b ps ≡ None → 0 < k → ltb (length ps) 16 ≡ t → (t ≡ true → qs ≡ ps ++ row a b k ∷ []) → (t ≡ false → qs ≡ ps) → (t ≡ fresh ps a b k) × (qs ≡ (if t then noted ps a b k else ps))
-  new_row true ps qs at p l y n = let r = no_row ps at in (rw (r.0, r.1, l, lt-ltb 0 k p) refl, y refl ∙ sym r.2)
-  new_row false ps qs at p l y n = let r = no_row ps at in (rw (r.0, r.1, l, lt-ltb 0 k p) refl, n refl)
+  new_row true ps qs at p l y n = let r = missed ps (none_passes (is_of a b) ps at) in (rw (r.0, r.1, l, lt-ltb 0 k p) refl, y refl ∙ sym r.2)
+  new_row false ps qs at p l y n = let r = missed ps (none_passes (is_of a b) ps at) in (rw (r.0, r.1, l, lt-ltb 0 k p) refl, n refl)

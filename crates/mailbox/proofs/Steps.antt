@@ -1,16 +1,16 @@
 -- The first slot that passes: what is read of it and written there, and what is so where there is none.
-use Rattle.std.proofs.Common.{◌≡◌, ℕ, zero, suc, ◌<◌, ◌≤◌, Bool, true, false, cond, ltb, List, [], ◌∷◌, ◌++◌, length, get_or, set, Some, None, refl, sym, ap, ◌∙◌, arith}
-use Rattle.std.specs.List.{position_or_len}
+use Rattle.std.proofs.Common.{◌≡◌, ℕ, zero, suc, ◌<◌, ◌≤◌, Bool, true, false, cond, ltb, List, [], ◌∷◌, ◌++◌, length, get_or, set, Some, None, Option, refl, sym, ap, ◌∙◌, arith}
 use Rattle.std.proofs.lemmas.Bool.{lt-ltb, le-ltb}
-use Rattle.std.proofs.lemmas.Grind.{common_steps}
-use Rattle.std.proofs.lemmas.List.Sums.{fails_before_first}
 use Rattle.std.proofs.lemmas.List.Quantifiers.{position-Some}
 use Rattle.elements.specs.declared.node.NodeNumber.{NodeNumber}
 use Rattle.carrier.specs.declared.datagram.Datagram.{Datagram}
+use Rattle.carrier.specs.declared.route.Route.{Route}
 use Rattle.carrier.specs.Datagrams.{octets_in}
+use Rattle.carrier.specs.Octets.{route_of}
+use Rattle.carrier.proofs.Elements.{none_passes}
 use Rattle.mailbox.specs.declared.slot.Slot.{Slot}
 use Rattle.mailbox.specs.Model.{Takes}
-use Rattle.mailbox.specs.Slots.{slot, held_by, pair_of, waits_for, any, place, first, change, distinct, renewed, emptied, noted}
+use Rattle.mailbox.specs.Slots.{slot, held_by, is_of, pair_of, waits_for, any, place, first, change, distinct, renewed, emptied, noted}
 use Rattle.mailbox.specs.Pairs.{distinct_same, emptied_keeps}
 
 module _ (p : Slot → Bool) (g : Slot → Slot) where
@@ -22,11 +22,11 @@ module _ (p : Slot → Bool) (g : Slot → Slot) where
       let no : p e ≡ false = f 0 (omega arith) in
       rw no (r.0, r.1, ap (λ fs. e ∷ fs) r.2)
 
-  missed : (es : List Slot) (x : Slot) → ((j : ℕ) → j < length es → p (get_or es j x) ≡ false) → (any p es ≡ false) × (first p es ≡ None) × (change p g es ≡ es)
-  missed [] x f = (refl, refl, refl)
-  missed (e ∷ es) x f =
-      let r = missed es x (λ j lt. f (suc j) (omega arith)) in
-      let no : p e ≡ false = f 0 (omega arith) in
+  missed : (es : List Slot) → ((j : ℕ) (x : Slot) → j < length es → p (get_or es j x) ≡ false) → (any p es ≡ false) × (first p es ≡ None) × (change p g es ≡ es)
+  missed [] f = (refl, refl, refl)
+  missed (e ∷ es) f =
+      let r = missed es (λ j x lt. f (suc j) x (omega arith)) in
+      let no : p e ≡ false = f 0 e (omega arith) in
       rw no (r.0, r.1, ap (λ fs. e ∷ fs) r.2)
 
   there : (es : List Slot) (i : ℕ) (x : Slot) → place p es ≡ Some i → (any p es ≡ true) × (first p es ≡ Some (held_by (get_or es i x))) × (change p g es ≡ set es i (g (get_or es i x)))
@@ -35,12 +35,13 @@ module _ (p : Slot → Bool) (g : Slot → Slot) where
       found i es x q.0 q.1 q.2
 
   nowhere : (es : List Slot) → place p es ≡ None → (any p es ≡ false) × (first p es ≡ None) × (change p g es ≡ es)
-  nowhere [] at = (refl, refl, refl)
-  nowhere (e ∷ es) at =
-      let past : length (e ∷ es) ≤ position_or_len p (e ∷ es) = grind (arith, common_steps) in
-      missed (e ∷ es) e (λ j lt. fails_before_first p (e ∷ es) j e (omega arith))
+  nowhere es at = missed es (none_passes p es at)
 
 module _ (d : Datagram) (es : List Slot) where
+  -- the slot of its route is the one of its pair
+  pub place_of : (r : Route) (s o : Option ℕ) → r ≡ route_of (octets_in d) → s ≡ place (is_of r.source r.destination) es → s ≡ o → place (pair_of (octets_in d)) es ≡ o
+  place_of r s o e at is = ap (λ (q : Route). place (is_of q.source q.destination) es) (sym e) ∙ sym at ∙ is
+
   pub renews : (i : ℕ) (x : Slot) → place (pair_of (octets_in d)) es ≡ Some i → x ≡ get_or es i x → set es i (renewed d x) ≡ noted d es
   renews i x at is =
       let r = there (pair_of (octets_in d)) (renewed d) es i x at in

@@ -1,7 +1,7 @@
 use Rattle.std.proofs.Common.{◌≡◌, ltb, length, get_or, set, Some, None, ap, ◌∙◌, rules}
 use Rattle.std.specs.List.{refill}
 use Rattle.std.proofs.lemmas.Bool.{lt-ltb}
-use Rattle.carrier.proofs.Writes.{written}
+use Rattle.carrier.proofs.Elements.{written}
 use Rattle.gate.specs.Rows.{spot, rows_of}
 use Rattle.gate.proofs.Notes.{blank, known_row, new_row}
 use Rattle.gate.proofs.pairs.Pairs.note.Goals as goal

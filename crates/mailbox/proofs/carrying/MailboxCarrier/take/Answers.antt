@@ -1,6 +1,6 @@
 use Rattle.std.proofs.Common.{◌≡◌, length, get_or, set, Some, None, ap, ◌∙◌, rules}
 use Rattle.std.specs.List.{refill}
-use Rattle.carrier.proofs.Writes.{written}
+use Rattle.carrier.proofs.Elements.{written}
 use Rattle.mailbox.specs.Model.{slots_of}
 use Rattle.mailbox.specs.Slots.{waits_for, place, distinct}
 use Rattle.mailbox.proofs.Steps.{takes_first, takes_none, keeps_apart}
