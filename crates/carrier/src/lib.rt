@@ -5,3 +5,4 @@ pub mod carrier;
 pub mod datagram;
 pub mod in_order;
 mod making;
+pub mod route;

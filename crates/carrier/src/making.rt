@@ -1,9 +1,11 @@
 // Datagrams made and looked at.
-ghost use Rattle.std.specs.Prelude.{◌≡◌, ◌≤◌, length, take};
+ghost use Rattle.std.specs.Prelude.{◌≡◌, ◌≤◌, length, take, IfErr};
+ghost use Rattle.std.specs.Result.{result_ok};
 ghost use Rattle.carrier.specs.Datagrams.{octets_in, travelling, carried};
-ghost use Rattle.carrier.specs.Octets.{destination_of};
+ghost use Rattle.carrier.specs.Octets.{source_of, destination_of, stamp_of, route_of};
 
-use crate::datagram::Datagram;
+use crate::datagram::{Datagram, WrongLength};
+use crate::route::Route;
 use elements::node::NodeNumber;
 
 // What is shorter or longer is no frame, and no carrier takes it.
@@ -21,26 +23,38 @@ fn padded(octets: &[u8]) -> [u8; 64]
     all
 }
 
-impl Datagram {
-    // These octets as a datagram, if they are 11 to 64.
-    pub fn from_octets(octets: &[u8]) -> Option<Datagram>
-        ensures { carried result ≡ travelling octets.now }
-    {
+// These octets as a datagram, if they are 11 to 64.
+impl TryFrom<&[u8]> for Datagram {
+    type Error = WrongLength;
+
+    ghost try_from_gives = { λ o r. (carried (result_ok r) ≡ travelling o.now) × IfErr r (λ e. e.len ≡ length o.now) };
+
+    fn try_from(octets: &[u8]) -> Result<Datagram, WrongLength> {
         let len = octets.len();
         if len < SHORTEST || len > LONGEST {
-            return None;
+            return Err(WrongLength { len });
         }
-        Some(Datagram {
+        Ok(Datagram {
             octets: padded(octets),
             len,
         })
     }
+}
 
+impl Datagram {
     pub fn as_slice(&self) -> &[u8]
         ensures value { result.now ≡ octets_in self.now }
         ensures long { 11 ≤ length result.now }
     {
         &self.octets[0..self.len]
+    }
+
+    // The node that the octets name as their source, lawful or not.
+    pub fn source(&self) -> NodeNumber
+        ensures { result ≡ source_of (octets_in self.now) }
+    {
+        let octets = self.as_slice();
+        NodeNumber { number: octets[0] }
     }
 
     // The node that the octets name as their destination, lawful or not.
@@ -49,5 +63,21 @@ impl Datagram {
     {
         let octets = self.as_slice();
         NodeNumber { number: octets[1] }
+    }
+
+    pub fn route(&self) -> Route
+        ensures { result ≡ route_of (octets_in self.now) }
+    {
+        Route {
+            source: self.source(),
+            destination: self.destination(),
+        }
+    }
+
+    pub fn stamp(&self) -> u32
+        ensures { result ≡ stamp_of (octets_in self.now) }
+    {
+        let octets = self.as_slice();
+        u32::from_be_bytes([octets[2], octets[3], octets[4], octets[5]])
     }
 }

@@ -1,59 +1,43 @@
--- Each way through the noting of a stamp gives the answer and the rows that the definitions say.
-use Rattle.std.proofs.Common.{◌≡◌, ℕ, ◌+◌, ◌<◌, ◌≤◌, Bool, true, false, cond, ◌&&◌, ltb, List, [], ◌∷◌, ◌++◌, length, get_or, take, drop, set, sym, ap, ◌∙◌, subst, arith, length-take-le, get_or-take}
-use lib.Seq.{take-set-lt}
-use Rattle.std.proofs.lemmas.List.{take_more_set}
-use Rattle.std.proofs.lemmas.Bool.{lt-ltb, le-ltb}
+-- The row of a route: what is known of it where it stands, and where there is none.
+use Rattle.std.proofs.Common.{◌≡◌, ℕ, zero, suc, ◌<◌, Bool, true, false, ◌&&◌, ltb, List, [], ◌∷◌, ◌++◌, length, get_or, set, if◌then◌else◌, Some, None, refl, ap, sym, ◌∙◌, arith}
+use Rattle.std.proofs.lemmas.Bool.{lt-ltb}
+use Rattle.std.proofs.lemmas.List.Quantifiers.{position-Some}
 use Rattle.elements.specs.declared.node.NodeNumber.{NodeNumber}
+use Rattle.carrier.proofs.Elements.{none_passes}
 use Rattle.gate.specs.declared.pairs.Pair.{Pair}
 use Rattle.gate.specs.Rows.{is_of, row, spot, last_given_in, known, fresh, noted}
-use Rattle.gate.proofs.Spots.{spot_more, found, missed}
 
--- any row, where one is asked for past the end
-abbrev pub none : Pair
-none = row (record { number = 0 }) (record { number = 0 }) 0
+-- the row that is read where there is none
+abbrev pub blank : Pair
+blank = row (record { number = 0 }) (record { number = 0 }) 0
 
-fresh_is : (ps : List Pair) (a b : NodeNumber) (k la : ℕ) (kn : Bool) → last_given_in ps a b ≡ la → known ps a b ≡ kn → fresh ps a b k ≡ (ltb la k && cond kn true (ltb (length ps) 16))
-fresh_is ps a b k la kn e f = ap (λ l. ltb l k && cond (known ps a b) true (ltb (length ps) 16)) e ∙ ap (λ t. ltb la k && cond t true (ltb (length ps) 16)) f
+and_true : (b : Bool) → b ≡ (b && true)
+and_true true = refl
+and_true false = refl
 
-module _ (rows : List Pair) (n : ℕ) (a b : NodeNumber) (k i : ℕ) (at : i ≡ spot a b (take n rows)) (le : n ≤ length rows) where
-  abbrev ps : List Pair
-  ps = take n rows
+module _ (a b : NodeNumber) (k : ℕ) where
+  found : (i : ℕ) (ps : List Pair) (d : Pair) → i < length ps → is_of a b (get_or ps i d) ≡ true → ((j : ℕ) → j < i → is_of a b (get_or ps j d) ≡ false) → (known ps a b ≡ true) × (last_given_in ps a b ≡ (get_or ps i d).stamp) × (noted ps a b k ≡ set ps i (row a b k))
+  found i [] d l t f = absurd (omega arith)
+  found zero (p ∷ ps) d l t f = rw t (refl, refl, refl)
+  found (suc i) (p ∷ ps) d l t f =
+      let r = found i ps d (omega arith) t (λ j lt. f (suc j) (omega arith)) in
+      let no : is_of a b p ≡ false = f 0 (omega arith) in
+      rw no (r.0, r.1, ap (λ qs. p ∷ qs) r.2)
 
-  long : length ps ≡ n
-  long = length-take-le n rows le
+  missed : (ps : List Pair) → ((j : ℕ) (d : Pair) → j < length ps → is_of a b (get_or ps j d) ≡ false) → (known ps a b ≡ false) × (last_given_in ps a b ≡ 0) × (noted ps a b k ≡ ps ++ row a b k ∷ [])
+  missed [] f = (refl, refl, refl)
+  missed (p ∷ ps) f =
+      let r = missed ps (λ j d lt. f (suc j) d (omega arith)) in
+      let no : is_of a b p ≡ false = f 0 p (omega arith) in
+      rw no (r.0, r.1, ap (λ qs. p ∷ qs) r.2)
 
-  module _ (h : i < n) where
-    at_row : (last_given_in ps a b ≡ (get_or rows i none).stamp) × (known ps a b ≡ true) × (noted ps a b k ≡ set ps i (row a b k))
-    at_row =
-        let r = found a b k none ps (subst (λ j. j < length ps) at (rw long h)) in
-        (r.1 ∙ ap (λ j. (get_or ps j none).stamp) (sym at) ∙ ap (λ p. p.stamp) (get_or-take n rows i none h), r.0, r.2 ∙ ap (λ j. set ps j (row a b k)) (sym at))
+  pub known_row : (ps : List Pair) (i : ℕ) → spot a b ps ≡ Some i → (ltb (get_or ps i blank).stamp k ≡ fresh ps a b k) × (set ps i (row a b k) ≡ noted ps a b k)
+  known_row ps i at =
+      let p = position-Some (is_of a b) ps i blank at in
+      let r = found i ps blank p.0 p.1 p.2 in
+      (rw (r.0, r.1) (and_true _), sym r.2)
 
-    pub renewed : (get_or rows i none).stamp < k → (true ≡ fresh ps a b k) × (take n (set rows i (row a b k)) ≡ noted ps a b k)
-    renewed l =
-        (sym (fresh_is ps a b k _ true at_row.0 at_row.1 ∙ ap (λ t. t && true) (lt-ltb _ _ l)), take-set-lt n rows i (row a b k) h ∙ sym at_row.2)
-
-    pub stale : k ≤ (get_or rows i none).stamp → false ≡ fresh ps a b k
-    stale l = sym (fresh_is ps a b k _ true at_row.0 at_row.1 ∙ ap (λ t. t && true) (le-ltb _ _ l))
-
-  module _ (h : n ≤ i) where
-    no_row : (last_given_in ps a b ≡ 0) × (known ps a b ≡ false) × (noted ps a b k ≡ ps ++ row a b k ∷ [])
-    no_row = let r = missed a b k ps (subst (λ j. length ps ≤ j) at (rw long h)) in (r.1, r.0, r.2)
-
-    pub zero_stamp : k ≡ 0 → false ≡ fresh ps a b k
-    zero_stamp e = sym (fresh_is ps a b k 0 false no_row.0 no_row.1 ∙ ap (λ t. t && ltb (length ps) 16) (le-ltb 0 k (omega arith)))
-
-    pub full : 16 ≤ n → 0 < k → false ≡ fresh ps a b k
-    full l p =
-        let m : ltb (length ps) 16 ≡ false = le-ltb _ _ (rw long l) in
-        sym (fresh_is ps a b k 0 false no_row.0 no_row.1 ∙ ap (λ t. t && ltb (length ps) 16) (lt-ltb 0 k p) ∙ m)
-
-    pub entered : n < 16 → n < length rows → 0 < k → (true ≡ fresh ps a b k) × (take (n + 1) (set rows n (row a b k)) ≡ noted ps a b k)
-    entered l w p =
-        let m : ltb (length ps) 16 ≡ true = lt-ltb _ _ (rw long l) in
-        (sym (fresh_is ps a b k 0 false no_row.0 no_row.1 ∙ ap (λ t. t && ltb (length ps) 16) (lt-ltb 0 k p) ∙ m), take_more_set rows n (row a b k) w ∙ sym no_row.2)
-
--- one row further among the first n
-pub spot_step : (rows : List Pair) (n i : ℕ) (a b : NodeNumber) (t : Bool) → n ≤ length rows → i < n → is_of a b (get_or rows i none) ≡ t → spot a b (drop i (take n rows)) ≡ cond t 0 (1 + spot a b (drop (i + 1) (take n rows)))
-spot_step rows n i a b t le h e =
-    let l : i < length (take n rows) = rw (length-take-le n rows le) h in
-    spot_more a b (take n rows) i none l ∙ ap (λ c. cond c 0 (1 + spot a b (drop (i + 1) (take n rows)))) (ap (is_of a b) (get_or-take n rows i none h) ∙ e)
+  -- t says whether a new row found room
+  pub new_row : (t : Bool) (ps qs : List Pair) → spot a b ps ≡ None → 0 < k → ltb (length ps) 16 ≡ t → (t ≡ true → qs ≡ ps ++ row a b k ∷ []) → (t ≡ false → qs ≡ ps) → (t ≡ fresh ps a b k) × (qs ≡ (if t then noted ps a b k else ps))
+  new_row true ps qs at p l y n = let r = missed ps (none_passes (is_of a b) ps at) in (rw (r.0, r.1, l, lt-ltb 0 k p) refl, y refl ∙ sym r.2)
+  new_row false ps qs at p l y n = let r = missed ps (none_passes (is_of a b) ps at) in (rw (r.0, r.1, l, lt-ltb 0 k p) refl, n refl)

@@ -1,7 +1,7 @@
 -- What the gate gives moves its pair's latest stamp up to its own, and no other's.
 use Rattle.std.specs.Prelude.{◌≡◌, ℕ, Bool, true, false, cond, ◌⊎◌, List, [], ◌∷◌, Some, None, Ok, Err, Option, Result, ◌≢◌, refl}
 use Rattle.std.proofs.Common.{sym, ap, subst, ◌∙◌, inl, inr, ⊎_elim}
-use Rattle.std.proofs.lemmas.Bool.{eq-eqb, eqb-true, ltb-true, and_from, and_parts, cases_Bool}
+use Rattle.std.proofs.lemmas.Bool.{ltb-true, and_from, and_parts, cases_Bool}
 use Rattle.elements.specs.declared.fault.Fault.{Fault}
 use Rattle.elements.specs.declared.node.NodeNumber.{NodeNumber}
 use Rattle.elements.specs.Nodes.{same_node}
@@ -11,16 +11,14 @@ use Rattle.frames.specs.declared.frame.Frame.{Frame}
 use Rattle.frames.specs.Format.{frame_in, header_read}
 use Rattle.frames.proofs.Headers.{header_read_lem}
 use Rattle.carrier.specs.Octets.{source_of, destination_of, stamp_of}
+use Rattle.carrier.specs.Nodes.{same_node_lem, own_node}
 use Rattle.carrier.specs.Order.{Moves}
 use Rattle.gate.specs.declared.pairs.Pair.{Pair}
 use Rattle.gate.specs.Passing.{Heard, Passed}
 use Rattle.gate.specs.Rows.{is_of, row, last_given_in, fresh, noted}
 
-same_is : (a b : NodeNumber) → same_node a b ≡ true → a ≡ b
-same_is a b t = let e = eqb-true a.number b.number t in λ i. record { number = e i }
-
 is_own : (a b : NodeNumber) (k : ℕ) → is_of a b (row a b k) ≡ true
-is_own a b k = and_from _ _ (eq-eqb a.number _ refl) (eq-eqb b.number _ refl)
+is_own a b k = and_from _ _ (own_node a) (own_node b)
 
 -- the pair's own latest stamp is the new one
 own_by : (t : Bool) (a b : NodeNumber) (k : ℕ) (p : Pair) (ps : List Pair) → is_of a b p ≡ t → last_given_in (noted ps a b k) a b ≡ k → last_given_in (cond t (row a b k ∷ ps) (p ∷ noted ps a b k)) a b ≡ k
@@ -34,11 +32,11 @@ own a b k (p ∷ ps) = own_by (is_of a b p) a b k p ps refl (own a b k ps)
 -- a row that is of a to b is of no other pair
 not_both : (a b u v : NodeNumber) (p : Pair) → is_of a b p ≡ true → (u ≡ a → v ≢ b) → is_of u v p ≡ false
 not_both a b u v p t ne =
-    let x = and_parts (same_node p.source a) (same_node p.destination b) t in
+    let x = and_parts (same_node p.route.source a) (same_node p.route.destination b) t in
     ⊎_elim
     (λ o.
-    let y = and_parts (same_node p.source u) (same_node p.destination v) o in
-    absurd (ne (sym (same_is p.source u y.0) ∙ same_is p.source a x.0) (sym (same_is p.destination v y.1) ∙ same_is p.destination b x.1)))
+    let y = and_parts (same_node p.route.source u) (same_node p.route.destination v) o in
+    absurd (ne (sym (same_node_lem p.route.source u y.0) ∙ same_node_lem p.route.source a x.0) (sym (same_node_lem p.route.destination v y.1) ∙ same_node_lem p.route.destination b x.1)))
     (λ f. f)
     (cases_Bool (is_of u v p))
 

@@ -1,24 +1,24 @@
 -- The rows of the gate: the latest stamp given of each pair of nodes, in the order in which pairs were first given.
-use Rattle.std.specs.Prelude.{ℕ, ◌+◌, Bool, true, false, cond, ◌&&◌, List, [], ◌∷◌, length, take, nat_lt}
+use Rattle.std.specs.Prelude.{ℕ, Bool, true, false, cond, ◌&&◌, List, [], ◌∷◌, length, Option, nat_lt}
+use Rattle.std.specs.List.{position}
 use Rattle.elements.specs.declared.node.NodeNumber.{NodeNumber}
 use Rattle.elements.specs.Nodes.{same_node}
 use Rattle.gate.specs.declared.pairs.Pair.{Pair}
 use Rattle.gate.specs.declared.pairs.Pairs.{Pairs}
 
 abbrev pub rows_of : Pairs → List Pair
-rows_of t = take t.count t.rows
+rows_of t = t.rows.items
 
 -- is this the row of a to b?
 abbrev pub is_of : NodeNumber → NodeNumber → Pair → Bool
-is_of a b p = same_node p.source a && same_node p.destination b
+is_of a b p = same_node p.route.source a && same_node p.route.destination b
 
 abbrev pub row : NodeNumber → NodeNumber → ℕ → Pair
-row a b k = record { source = a; destination = b; stamp = k }
+row a b k = record { route = record { source = a; destination = b }; stamp = k }
 
 -- where the row of a to b stands
-abbrev pub spot : NodeNumber → NodeNumber → List Pair → ℕ
-spot a b [] = 0
-spot a b (p ∷ ps) = cond (is_of a b p) 0 (1 + spot a b ps)
+abbrev pub spot : NodeNumber → NodeNumber → List Pair → Option ℕ
+spot a b ps = position (is_of a b) ps
 
 -- the latest stamp from a to b, 0 when new
 abbrev pub last_given_in : List Pair → NodeNumber → NodeNumber → ℕ

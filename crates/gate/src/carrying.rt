@@ -12,6 +12,7 @@ use crate::pairs::Pairs;
 use carrier::carrier::Carrier;
 use carrier::datagram::Datagram;
 use carrier::in_order::InOrder;
+use carrier::route::Route;
 use elements::node::NodeNumber;
 use frames::reading::read_frame;
 
@@ -39,16 +40,12 @@ fn pass(pairs: &mut Pairs, came: Option<Datagram>) -> Option<Datagram>
     ensures { Passed (rows_of pairs.old) (carried came) (carried result) (rows_of pairs.new) }
 {
     let datagram = came?;
-    match read_frame(datagram.as_slice()) {
-        Ok(frame) => {
-            if pairs.note(frame.source, frame.destination, frame.stamp) {
-                Some(datagram)
-            } else {
-                None
-            }
-        }
-        Err(_) => None,
-    }
+    let frame = read_frame(datagram.as_slice()).ok()?;
+    let route = Route {
+        source: frame.source,
+        destination: frame.destination,
+    };
+    pairs.note(route, frame.stamp).then_some(datagram)
 }
 
 impl<C: Carrier> Carrier for Gate<C> {

@@ -1,80 +1,50 @@
 // Looking up and noting stamps.
-ghost use Rattle.std.specs.Prelude.{◌≡◌, ◌≤◌, [], length, take, if◌then◌else◌};
+ghost use Rattle.std.specs.Prelude.{◌≡◌, [], if◌then◌else◌};
 ghost use Rattle.gate.specs.Rows.{is_of, spot, fresh, noted, rows_of};
 
 use crate::pairs::{Pair, Pairs};
-use elements::node::NodeNumber;
-
-// So many pairs are remembered.
-const PAIRS: usize = 16;
+use arrayvec::ArrayVec;
+use carrier::route::Route;
 
 impl Pair {
-    // Is this the row of these two nodes?
-    pub fn is_of(&self, source: NodeNumber, destination: NodeNumber) -> bool
-        ensures { result ≡ is_of source destination self.now }
+    // Is this the row of this route?
+    pub fn is_of(&self, route: Route) -> bool
+        ensures { result ≡ is_of route.source route.destination self.now }
     {
-        self.source.is(source) && self.destination.is(destination)
+        self.route == route
     }
-}
-
-// Where the row of two nodes stands among the first `count`; `count` where there is none.
-fn row_of(rows: &[Pair], count: usize, source: NodeNumber, destination: NodeNumber) -> usize
-    requires { count ≤ length rows.now }
-    ensures { result ≡ spot source destination (take count rows.now) }
-{
-    for i in 0..count {
-        if rows[i].is_of(source, destination) {
-            return i;
-        }
-    }
-    count
 }
 
 impl Pairs {
     pub fn new() -> Pairs
         ensures { rows_of result ≡ [] }
     {
-        let nobody = NodeNumber { number: 0 };
-        let row = Pair {
-            source: nobody,
-            destination: nobody,
-            stamp: 0,
-        };
         Pairs {
-            rows: [row; 16],
-            count: 0,
+            rows: ArrayVec::new(),
         }
     }
 
-    // Notes a stamp that is above the last given of its pair, if the pair has a row or can get one.
-    pub fn note(&mut self, source: NodeNumber, destination: NodeNumber, stamp: u32) -> bool
-        ensures answer { result ≡ fresh (rows_of self.old) source destination stamp }
-        ensures rows { rows_of self.new ≡ (if result then noted (rows_of self.old) source destination stamp else rows_of self.old) }
+    // Where the row of a route stands.
+    fn row_of(&self, route: Route) -> Option<usize>
+        ensures { result ≡ spot route.source route.destination (rows_of self.now) }
     {
-        let i = row_of(&self.rows, self.count, source, destination);
-        if i < self.count {
-            if self.rows[i].stamp < stamp {
-                self.rows[i] = Pair {
-                    source,
-                    destination,
-                    stamp,
-                };
-                return true;
+        self.rows.iter().position(|row| row.is_of(route))
+    }
+
+    // Notes a stamp that is above the last given of its pair, if the pair has a row or can get one.
+    pub fn note(&mut self, route: Route, stamp: u32) -> bool
+        ensures answer { result ≡ fresh (rows_of self.old) route.source route.destination stamp }
+        ensures rows { rows_of self.new ≡ (if result then noted (rows_of self.old) route.source route.destination stamp else rows_of self.old) }
+    {
+        match self.row_of(route) {
+            Some(i) => {
+                let newer = self.rows[i].stamp < stamp;
+                if newer {
+                    self.rows[i] = Pair { route, stamp };
+                }
+                newer
             }
-            return false;
+            None => 0 < stamp && self.rows.try_push(Pair { route, stamp }).is_ok(),
         }
-        if stamp == 0 {
-            return false;
-        }
-        if self.count >= PAIRS {
-            return false;
-        }
-        self.rows[self.count] = Pair {
-            source,
-            destination,
-            stamp,
-        };
-        self.count += 1;
-        true
     }
 }

@@ -1,19 +1,37 @@
 // What the gate remembers: the stamp last given of each pair of nodes.
-ghost use Rattle.std.specs.Prelude.{◌≤◌};
+ghost use Rattle.std.specs.Prelude.{◌≡◌};
 
+use arrayvec::ArrayVec;
+use carrier::route::Route;
 use elements::node::NodeNumber;
+
+// So many pairs are remembered.
+const PAIRS: usize = 16;
 
 #[derive(Clone, Copy)]
 pub struct Pair {
-    pub source: NodeNumber,
-    pub destination: NodeNumber,
+    pub route: Route,
     pub stamp: u32,
 }
 
-// The first `count` rows hold the first pairs given, at most 16.
-#[derive(Clone, Copy)]
+// A blank, from nobody to nobody.
+impl Default for Pair {
+    ghost is_default = { λ p. p.stamp ≡ 0 };
+
+    fn default() -> Pair {
+        let nobody = NodeNumber { number: 0 };
+        Pair {
+            route: Route {
+                source: nobody,
+                destination: nobody,
+            },
+            stamp: 0,
+        }
+    }
+}
+
+// The first pairs given, at most 16, in the order in which they were first given.
+#[derive(Drop)]
 pub struct Pairs {
-    pub rows: [Pair; 16],
-    pub count: usize,
-    ghost few: { count ≤ 16 },
+    pub rows: ArrayVec<Pair, PAIRS>,
 }

@@ -1,58 +1,72 @@
--- The same over the array of slots, as the code holds them.
-use Rattle.std.proofs.Common.{◌≡◌, ℕ, ◌+◌, ◌<◌, ◌≤◌, Bool, true, false, cond, ltb, List, [], ◌∷◌, ◌++◌, length, get_or, take, set, Some, None, sym, ap, ◌∙◌, subst, length-take-le, get_or-take}
-use lib.Seq.{take-set-lt}
-use Rattle.std.proofs.lemmas.List.{take_more_set}
+-- The first slot that passes: what is read of it and written there, and what is so where there is none.
+use Rattle.std.proofs.Common.{◌≡◌, ℕ, zero, suc, ◌<◌, ◌≤◌, Bool, true, false, cond, ltb, List, [], ◌∷◌, ◌++◌, length, get_or, set, Some, None, Option, refl, sym, ap, ◌∙◌, arith}
 use Rattle.std.proofs.lemmas.Bool.{lt-ltb, le-ltb}
+use Rattle.std.proofs.lemmas.List.Quantifiers.{position-Some}
 use Rattle.elements.specs.declared.node.NodeNumber.{NodeNumber}
 use Rattle.carrier.specs.declared.datagram.Datagram.{Datagram}
+use Rattle.carrier.specs.declared.route.Route.{Route}
 use Rattle.carrier.specs.Datagrams.{octets_in}
+use Rattle.carrier.specs.Octets.{route_of}
+use Rattle.carrier.proofs.Elements.{none_passes}
 use Rattle.mailbox.specs.declared.slot.Slot.{Slot}
 use Rattle.mailbox.specs.Model.{Takes}
-use Rattle.mailbox.specs.Slots.{slot, held_by, pair_of, waits_for, any, place, first, change, distinct, renewed, emptied, noted}
-use Rattle.mailbox.proofs.Scans.{found, missed}
+use Rattle.mailbox.specs.Slots.{slot, held_by, is_of, pair_of, waits_for, any, place, first, change, distinct, renewed, emptied, noted}
 use Rattle.mailbox.specs.Pairs.{distinct_same, emptied_keeps}
 
--- the first n of xs, and the place of the first that passes
-module _ (p : Slot → Bool) (g : Slot → Slot) (xs : List Slot) (n i : ℕ) (le : n ≤ length xs) (at : i ≡ place p (take n xs)) where
-  abbrev es : List Slot
-  es = take n xs
+module _ (p : Slot → Bool) (g : Slot → Slot) where
+  found : (i : ℕ) (es : List Slot) (x : Slot) → i < length es → p (get_or es i x) ≡ true → ((j : ℕ) → j < i → p (get_or es j x) ≡ false) → (any p es ≡ true) × (first p es ≡ Some (held_by (get_or es i x))) × (change p g es ≡ set es i (g (get_or es i x)))
+  found i [] x l t f = absurd (omega arith)
+  found zero (e ∷ es) x l t f = rw t (refl, refl, refl)
+  found (suc i) (e ∷ es) x l t f =
+      let r = found i es x (omega arith) t (λ j lt. f (suc j) (omega arith)) in
+      let no : p e ≡ false = f 0 (omega arith) in
+      rw no (r.0, r.1, ap (λ fs. e ∷ fs) r.2)
 
-  long : length es ≡ n
-  long = length-take-le n xs le
+  missed : (es : List Slot) → ((j : ℕ) (x : Slot) → j < length es → p (get_or es j x) ≡ false) → (any p es ≡ false) × (first p es ≡ None) × (change p g es ≡ es)
+  missed [] f = (refl, refl, refl)
+  missed (e ∷ es) f =
+      let r = missed es (λ j x lt. f (suc j) x (omega arith)) in
+      let no : p e ≡ false = f 0 e (omega arith) in
+      rw no (r.0, r.1, ap (λ fs. e ∷ fs) r.2)
 
-  there : (x : Slot) → i < n → (any p es ≡ true) × (first p es ≡ Some (held_by (get_or xs i x))) × (change p g es ≡ take n (set xs i (g (get_or xs i x))))
-  there x h =
-      let r = found p g x es (subst (λ j. j < length es) at (rw long h)) in
-      let v : get_or es (place p es) x ≡ get_or xs i x = ap (λ j. get_or es j x) (sym at) ∙ get_or-take n xs i x h in
-      (r.0, r.1 ∙ ap (λ e. Some (held_by e)) v, r.2 ∙ ap (λ e. set es (place p es) (g e)) v ∙ ap (λ j. set es j (g (get_or xs i x))) (sym at) ∙ sym (take-set-lt n xs i (g (get_or xs i x)) h))
+  there : (es : List Slot) (i : ℕ) (x : Slot) → place p es ≡ Some i → (any p es ≡ true) × (first p es ≡ Some (held_by (get_or es i x))) × (change p g es ≡ set es i (g (get_or es i x)))
+  there es i x at =
+      let q = position-Some p es i x at in
+      found i es x q.0 q.1 q.2
 
-  nowhere : n ≤ i → (any p es ≡ false) × (first p es ≡ None) × (change p g es ≡ es)
-  nowhere h = missed p g es (subst (λ j. length es ≤ j) at (rw long h))
+  nowhere : (es : List Slot) → place p es ≡ None → (any p es ≡ false) × (first p es ≡ None) × (change p g es ≡ es)
+  nowhere es at = missed es (none_passes p es at)
 
-module _ (d : Datagram) (xs : List Slot) (n i : ℕ) (le : n ≤ length xs) (at : i ≡ place (pair_of (octets_in d)) (take n xs)) where
-  pub renews : (x : Slot) → i < n → take n (set xs i (renewed d (get_or xs i x))) ≡ noted d (take n xs)
-  renews x h =
-      let r = there (pair_of (octets_in d)) (renewed d) xs n i le at x h in
-      sym (ap (λ b. cond b (change (pair_of (octets_in d)) (renewed d) (take n xs)) (cond (ltb (length (take n xs)) 16) (take n xs ++ slot d 0 ∷ []) (take n xs))) r.0 ∙ r.2)
+module _ (d : Datagram) (es : List Slot) where
+  -- the slot of its route is the one of its pair
+  pub place_of : (r : Route) (s o : Option ℕ) → r ≡ route_of (octets_in d) → s ≡ place (is_of r.source r.destination) es → s ≡ o → place (pair_of (octets_in d)) es ≡ o
+  place_of r s o e at is = ap (λ (q : Route). place (is_of q.source q.destination) es) (sym e) ∙ sym at ∙ is
 
-  unknown : n ≤ i → noted d (take n xs) ≡ cond (ltb n 16) (take n xs ++ slot d 0 ∷ []) (take n xs)
-  unknown h =
-      let r = nowhere (pair_of (octets_in d)) (renewed d) xs n i le at h in
-      ap (λ b. cond b (change (pair_of (octets_in d)) (renewed d) (take n xs)) (cond (ltb (length (take n xs)) 16) (take n xs ++ slot d 0 ∷ []) (take n xs))) r.0
-      ∙ ap (λ m. cond (ltb m 16) (take n xs ++ slot d 0 ∷ []) (take n xs)) (length-take-le n xs le)
+  pub renews : (i : ℕ) (x : Slot) → place (pair_of (octets_in d)) es ≡ Some i → x ≡ get_or es i x → set es i (renewed d x) ≡ noted d es
+  renews i x at is =
+      let r = there (pair_of (octets_in d)) (renewed d) es i x at in
+      let n : noted d es ≡ change (pair_of (octets_in d)) (renewed d) es = ap (λ b. cond b (change (pair_of (octets_in d)) (renewed d) es) (cond (ltb (length es) 16) (es ++ slot d 0 ∷ []) es)) r.0 in
+      ap (λ e. set es i (renewed d e)) is ∙ sym (n ∙ r.2)
 
-  pub adds_slot : n ≤ i → n < 16 → n < length xs → take (n + 1) (set xs n (slot d 0)) ≡ noted d (take n xs)
-  adds_slot h l w = take_more_set xs n (slot d 0) w ∙ sym (unknown h ∙ ap (λ b. cond b (take n xs ++ slot d 0 ∷ []) (take n xs)) (lt-ltb n 16 l))
+  unknown : place (pair_of (octets_in d)) es ≡ None → noted d es ≡ cond (ltb (length es) 16) (es ++ slot d 0 ∷ []) es
+  unknown at = ap (λ b. cond b (change (pair_of (octets_in d)) (renewed d) es) (cond (ltb (length es) 16) (es ++ slot d 0 ∷ []) es)) (nowhere (pair_of (octets_in d)) (renewed d) es at).0
 
-  pub loses : n ≤ i → 16 ≤ n → take n xs ≡ noted d (take n xs)
-  loses h l = sym (unknown h ∙ ap (λ b. cond b (take n xs ++ slot d 0 ∷ []) (take n xs)) (le-ltb n 16 l))
+  pub adds_slot : place (pair_of (octets_in d)) es ≡ None → length es < 16 → es ++ slot d 0 ∷ [] ≡ noted d es
+  adds_slot at l = sym (unknown at ∙ ap (λ b. cond b (es ++ slot d 0 ∷ []) es) (lt-ltb _ 16 l))
 
-module _ (m : NodeNumber) (xs : List Slot) (n i : ℕ) (le : n ≤ length xs) (at : i ≡ place (waits_for m) (take n xs)) where
-  pub takes_first : (x : Slot) → i < n → Takes (take n xs) m (Some (held_by (get_or xs i x))) (take n (set xs i (emptied (get_or xs i x))))
-  takes_first x h = let r = there (waits_for m) emptied xs n i le at x h in (sym r.1, sym r.2)
+  pub loses : place (pair_of (octets_in d)) es ≡ None → 16 ≤ length es → es ≡ noted d es
+  loses at l = sym (unknown at ∙ ap (λ b. cond b (es ++ slot d 0 ∷ []) es) (le-ltb _ 16 l))
 
-  pub keeps_apart : (x : Slot) → i < n → distinct (take n xs) ≡ true → distinct (take n (set xs i (emptied (get_or xs i x)))) ≡ true
-  keeps_apart x h q = ap distinct (sym (there (waits_for m) emptied xs n i le at x h).2) ∙ distinct_same (waits_for m) emptied (emptied_keeps m) (take n xs) ∙ q
+module _ (n : NodeNumber) (es : List Slot) where
+  module _ (i : ℕ) (x : Slot) (at : place (waits_for n) es ≡ Some i) (is : x ≡ get_or es i x) where
+    emptied_there : set es i (emptied x) ≡ change (waits_for n) emptied es
+    emptied_there = ap (λ e. set es i (emptied e)) is ∙ sym (there (waits_for n) emptied es i x at).2
 
-  pub takes_none : n ≤ i → Takes (take n xs) m None (take n xs)
-  takes_none h = let r = nowhere (waits_for m) emptied xs n i le at h in (sym r.1, sym r.2)
+    pub takes_first : Takes es n (Some (held_by x)) (set es i (emptied x))
+    takes_first = (ap (λ e. Some (held_by e)) is ∙ sym (there (waits_for n) emptied es i x at).1, emptied_there)
+
+    pub keeps_apart : distinct es ≡ true → distinct (set es i (emptied x)) ≡ true
+    keeps_apart q = ap distinct emptied_there ∙ distinct_same (waits_for n) emptied (emptied_keeps n) es ∙ q
+
+  pub takes_none : place (waits_for n) es ≡ None → Takes es n None es
+  takes_none at = let r = nowhere (waits_for n) emptied es at in (sym r.1, sym r.2)

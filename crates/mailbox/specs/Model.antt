@@ -1,5 +1,5 @@
 -- What a put and a take do to the slots of a mailbox.
-use Rattle.std.specs.Prelude.{◌≡◌, ℕ, List, take, Some, None, Option}
+use Rattle.std.specs.Prelude.{◌≡◌, ℕ, List, Some, None, Option}
 use Rattle.elements.specs.declared.node.NodeNumber.{NodeNumber}
 use Rattle.carrier.specs.declared.datagram.Datagram.{Datagram}
 use Rattle.carrier.specs.Datagrams.{carried}
@@ -9,7 +9,7 @@ use Rattle.mailbox.specs.Frames.{legible}
 use Rattle.mailbox.specs.Slots.{waits_for, first, change, emptied, noted}
 
 abbrev pub slots_of : Mailbox → List Slot
-slots_of m = take m.count m.slots
+slots_of m = m.slots.items
 
 abbrev pub arrived : Option Datagram → List Slot → List Slot
 arrived None es = es

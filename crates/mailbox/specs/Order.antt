@@ -12,7 +12,8 @@ use Rattle.carrier.specs.Order.{Still, Moves}
 use Rattle.mailbox.specs.declared.slot.Slot.{Slot}
 use Rattle.mailbox.specs.Model.{arrived, Puts, Takes}
 use Rattle.mailbox.specs.Slots.{slot, held_by, is_of, pair_of, waits_for, any, first, change, distinct, last_given_in, renewed, emptied}
-use Rattle.mailbox.specs.Pairs.{same_node_lem, own_node, is_same, renewed_keeps}
+use Rattle.carrier.specs.Nodes.{same_node_lem, own_node}
+use Rattle.mailbox.specs.Pairs.{is_same, renewed_keeps}
 
 -- a put gives nothing
 changed_by : (c : Bool) (d : Datagram) (a b : NodeNumber) (e : Slot) (es : List Slot) → pair_of (octets_in d) e ≡ c → last_given_in (change (pair_of (octets_in d)) (renewed d) es) a b ≡ last_given_in es a b → last_given_in (cond c (renewed d e ∷ es) (e ∷ change (pair_of (octets_in d)) (renewed d) es)) a b ≡ last_given_in (e ∷ es) a b

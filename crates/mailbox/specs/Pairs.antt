@@ -6,16 +6,10 @@ use Rattle.elements.specs.declared.node.NodeNumber.{NodeNumber}
 use Rattle.elements.specs.Nodes.{same_node}
 use Rattle.carrier.specs.declared.datagram.Datagram.{Datagram}
 use Rattle.carrier.specs.Datagrams.{octets_in}
+use Rattle.carrier.specs.Nodes.{same_node_lem}
 use Rattle.carrier.specs.Octets.{source_of, destination_of, stamp_of}
 use Rattle.mailbox.specs.declared.slot.Slot.{Slot}
 use Rattle.mailbox.specs.Slots.{slot, held_by, is_of, pair_of, waits_for, any, change, distinct, renewed, emptied, noted}
-
--- a node is the one of its number
-pub same_node_lem : (a b : NodeNumber) → same_node a b ≡ true → a ≡ b
-same_node_lem a b t = let e = eqb-true a.number b.number t in λ i. record { number = e i }
-
-pub own_node : (a : NodeNumber) → same_node a a ≡ true
-own_node a = eq-eqb a.number _ refl
 
 -- of one pair
 abbrev pub Same : Slot → Slot → Type 0

@@ -1,5 +1,6 @@
 -- The slots of a mailbox, one for each pair of nodes, the earliest first.
-use Rattle.std.specs.Prelude.{ℕ, ◌+◌, Bool, true, false, cond, ◌&&◌, List, [], ◌∷◌, ◌++◌, length, Some, None, Option, nat_lt}
+use Rattle.std.specs.Prelude.{ℕ, Bool, true, false, cond, ◌&&◌, List, [], ◌∷◌, ◌++◌, length, Some, None, Option, nat_lt}
+use Rattle.std.specs.List.{position}
 use Rattle.elements.specs.declared.node.NodeNumber.{NodeNumber}
 use Rattle.elements.specs.Nodes.{same_node}
 use Rattle.carrier.specs.declared.datagram.Datagram.{Datagram}
@@ -34,9 +35,8 @@ abbrev pub any : (Slot → Bool) → List Slot → Bool
 any p [] = false
 any p (e ∷ es) = cond (p e) true (any p es)
 
-abbrev pub place : (Slot → Bool) → List Slot → ℕ
-place p [] = 0
-place p (e ∷ es) = cond (p e) 0 (1 + place p es)
+abbrev pub place : (Slot → Bool) → List Slot → Option ℕ
+place p es = position p es
 
 abbrev pub first : (Slot → Bool) → List Slot → Option (List ℕ)
 first p [] = None

@@ -18,7 +18,7 @@ use Rattle.mailbox.specs.declared.slot.Slot.{Slot}
 use Rattle.mailbox.specs.Frames.{is_frame, legible}
 use Rattle.mailbox.specs.Model.{arrived, Puts}
 use Rattle.mailbox.specs.Slots.{slot, held_by, pair_of, waits, waits_for, any, first, change, held_in, renewed, emptied}
-use Rattle.mailbox.specs.Pairs.{same_node_lem}
+use Rattle.carrier.specs.Nodes.{same_node_lem}
 
 -- what waits in a slot or in those behind it
 here_by : (b : Bool) (x o : List ℕ) (hs : List (List ℕ)) → In x (cond b (o ∷ hs) hs) → (x ≡ o) ⊎ In x hs

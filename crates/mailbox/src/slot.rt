@@ -1,9 +1,9 @@
 // A slot of a mailbox: what it keeps for one pair of nodes.
-ghost use Rattle.std.specs.Prelude.{◌≡◌};
-ghost use Rattle.mailbox.specs.Slots.{slot, is_of, waits_for, renewed, emptied};
+ghost use Rattle.std.specs.Prelude.{◌≡◌, false};
+ghost use Rattle.mailbox.specs.Slots.{slot, is_of, waits, waits_for, renewed, emptied};
 
-use crate::reading::{source_of, stamp_of};
 use carrier::datagram::Datagram;
+use carrier::route::Route;
 use elements::node::NodeNumber;
 
 // The first frame of highest stamp put for a pair, and the stamp last given of that pair, 0 for none.
@@ -12,6 +12,18 @@ use elements::node::NodeNumber;
 pub struct Slot {
     pub frame: Datagram,
     pub given: u32,
+}
+
+// A blank, whose frame does not wait.
+impl Default for Slot {
+    ghost is_default = { λ e. waits e ≡ false };
+
+    fn default() -> Slot {
+        Slot::new(Datagram {
+            octets: [0; 64],
+            len: 11,
+        })
+    }
 }
 
 impl Slot {
@@ -23,17 +35,17 @@ impl Slot {
     }
 
     // Is it the slot of this pair?
-    pub(crate) fn is_of(&self, source: NodeNumber, destination: NodeNumber) -> bool
-        ensures { result ≡ is_of source destination self.now }
+    pub(crate) fn is_of(&self, route: Route) -> bool
+        ensures { result ≡ is_of route.source route.destination self.now }
     {
-        source_of(&self.frame).is(source) && self.frame.destination().is(destination)
+        self.frame.route() == route
     }
 
     // Does its frame wait for this node?
     pub(crate) fn waits_for(&self, node: NodeNumber) -> bool
         ensures { result ≡ waits_for node self.now }
     {
-        self.frame.destination().is(node) && self.given < stamp_of(&self.frame)
+        self.frame.destination() == node && self.given < self.frame.stamp()
     }
 
     // With this frame of its pair, if its stamp is higher. What was given stays here until then, so a frame whose
@@ -41,7 +53,7 @@ impl Slot {
     pub(crate) fn renewed(self, frame: Datagram) -> Slot
         ensures { result ≡ renewed frame self }
     {
-        if stamp_of(&self.frame) < stamp_of(&frame) {
+        if self.frame.stamp() < frame.stamp() {
             Slot {
                 frame,
                 given: self.given,
@@ -57,7 +69,7 @@ impl Slot {
     {
         Slot {
             frame: self.frame,
-            given: stamp_of(&self.frame),
+            given: self.frame.stamp(),
         }
     }
 }

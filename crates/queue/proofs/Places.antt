@@ -1,30 +1,37 @@
--- The frame at the place of the first for a node is that frame, and without it the others are left.
-use Rattle.std.proofs.Common.{◌≡◌, ℕ, ◌+◌, ◌<◌, ◌≤◌, Bool, true, false, cond, List, [], ◌∷◌, length, get_or, Some, None, refl, ap, one-add, arith}
+-- Where the first frame for a node stands, it is what a take gives, and without it the others are left.
+use Rattle.std.proofs.Common.{◌≡◌, ℕ, zero, suc, ◌<◌, Bool, true, false, List, [], ◌∷◌, map, length, get_or, Some, None, refl, ap, ◌∙◌, arith}
 use Rattle.std.specs.List.{remove}
+use Rattle.std.proofs.lemmas.List.Quantifiers.{position-Some}
 use Rattle.elements.specs.declared.node.NodeNumber.{NodeNumber}
+use Rattle.carrier.specs.declared.datagram.Datagram.{Datagram}
+use Rattle.carrier.specs.Datagrams.{octets_in}
+use Rattle.carrier.proofs.Elements.{none_passes}
 use Rattle.queue.specs.Lists.{is_for, place, first_for, without_first}
 
-abbrev AtPlace : NodeNumber → List (List ℕ) → List ℕ → Type 0
-AtPlace n fs d = place n fs < length fs → (Some (get_or fs (place n fs) d) ≡ first_for n fs) × (remove fs (place n fs) ≡ without_first n fs)
+module _ (n : NodeNumber) where
+  abbrev mine : Datagram → Bool
+  mine d = is_for n (octets_in d)
 
-found_by : (b : Bool) (n : NodeNumber) (g : List ℕ) (fs : List (List ℕ)) (d : List ℕ) → AtPlace n fs d → cond b 0 (1 + place n fs) < length (g ∷ fs) → (Some (get_or (g ∷ fs) (cond b 0 (1 + place n fs)) d) ≡ cond b (Some g) (first_for n fs)) × (remove (g ∷ fs) (cond b 0 (1 + place n fs)) ≡ cond b fs (g ∷ without_first n fs))
-found_by true n g fs d rest h = (refl, refl)
-found_by false n g fs d rest h =
-    let l : place n fs < length fs = omega arith in
-    let r = rest l in
-    rw one-add (r.0, ap (λ gs. g ∷ gs) r.1)
+  found : (i : ℕ) (xs : List Datagram) (x : Datagram) → i < length xs → mine (get_or xs i x) ≡ true → ((k : ℕ) → k < i → mine (get_or xs k x) ≡ false) → (Some (octets_in (get_or xs i x)) ≡ first_for n (map octets_in xs)) × (map octets_in (remove xs i) ≡ without_first n (map octets_in xs))
+  found i [] x l t f = absurd (omega arith)
+  found zero (y ∷ ys) x l t f = rw t (refl, refl)
+  found (suc i) (y ∷ ys) x l t f =
+      let r = found i ys x (omega arith) t (λ k lt. f (suc k) (omega arith)) in
+      let no : mine y ≡ false = f 0 (omega arith) in
+      rw no (r.0, ap (λ gs. octets_in y ∷ gs) r.1)
 
-pub found : (n : NodeNumber) (fs : List (List ℕ)) (d : List ℕ) → AtPlace n fs d
-found n [] d h = absurd (omega arith)
-found n (g ∷ fs) d h = found_by (is_for n g) n g fs d (found n fs d) h
+  missed : (xs : List Datagram) → ((k : ℕ) (d : Datagram) → k < length xs → mine (get_or xs k d) ≡ false) → (None ≡ first_for n (map octets_in xs)) × (map octets_in xs ≡ without_first n (map octets_in xs))
+  missed [] f = (refl, refl)
+  missed (y ∷ ys) f =
+      let r = missed ys (λ k d lt. f (suc k) d (omega arith)) in
+      let no : mine y ≡ false = f 0 y (omega arith) in
+      rw no (r.0, ap (λ gs. octets_in y ∷ gs) r.1)
 
-missed_by : (b : Bool) (n : NodeNumber) (g : List ℕ) (fs : List (List ℕ)) → (length fs ≤ place n fs → (None ≡ first_for n fs) × (fs ≡ without_first n fs)) → length (g ∷ fs) ≤ cond b 0 (1 + place n fs) → (None ≡ cond b (Some g) (first_for n fs)) × (g ∷ fs ≡ cond b fs (g ∷ without_first n fs))
-missed_by true n g fs rest h = absurd (omega arith)
-missed_by false n g fs rest h =
-    let l : length fs ≤ place n fs = omega arith in
-    let r = rest l in
-    (r.0, ap (λ gs. g ∷ gs) r.1)
+  pub taken : (xs : List Datagram) (i : ℕ) (x : Datagram) → place n xs ≡ Some i → x ≡ get_or xs i x → (Some (octets_in x) ≡ first_for n (map octets_in xs)) × (map octets_in (remove xs i) ≡ without_first n (map octets_in xs))
+  taken xs i x at is =
+      let p = position-Some mine xs i x at in
+      let r = found i xs x p.0 p.1 p.2 in
+      (ap (λ y. Some (octets_in y)) is ∙ r.0, r.1)
 
-pub missed : (n : NodeNumber) (fs : List (List ℕ)) → length fs ≤ place n fs → (None ≡ first_for n fs) × (fs ≡ without_first n fs)
-missed n [] h = (refl, refl)
-missed n (g ∷ fs) h = missed_by (is_for n g) n g fs (missed n fs) h
+  pub untaken : (xs : List Datagram) → place n xs ≡ None → (None ≡ first_for n (map octets_in xs)) × (map octets_in xs ≡ without_first n (map octets_in xs))
+  untaken xs at = missed xs (none_passes mine xs at)

@@ -1,10 +1,10 @@
 -- What a queue does is what a carrier may do.
 use Rattle.std.specs.Prelude.{◌≡◌, ℕ, Bool, true, false, cond, ◌||◌, ◌⊎◌, List, [], ◌∷◌, ◌++◌, length, Some, None, Option, nat_lt, refl}
 use Rattle.std.proofs.Common.{inl, inr, ⊎_elim}
-use Rattle.std.proofs.lemmas.Bool.{eqb-true, ltb-false, or_parts}
+use Rattle.std.proofs.lemmas.Bool.{ltb-false, or_parts}
 use Rattle.elements.specs.declared.node.NodeNumber.{NodeNumber}
 use Rattle.carrier.specs.Datagrams.{travelling}
-use Rattle.carrier.specs.Octets.{destination_of}
+use Rattle.carrier.specs.Nodes.{same_node_lem}
 use Rattle.carrier.specs.Waiting.{In, Sized, Adds, Gives, Leaves}
 use Rattle.queue.specs.Lists.{is_for, first_for, without_first, pushed, added}
 
@@ -24,26 +24,22 @@ added_by false f fs x h = inl h
 pub adds : (f : List ℕ) (fs : List (List ℕ)) → Adds fs f (added f fs)
 adds f fs x h = added_by (nat_lt (length fs) 512) f fs x h
 
--- a node is the one of its number
-pub same_node_lem : (f : List ℕ) (n : NodeNumber) → is_for n f ≡ true → destination_of f ≡ n
-same_node_lem f n t = let e = eqb-true (destination_of f).number n.number t in λ i. record { number = e i }
-
 pub later : (n : NodeNumber) (g : List ℕ) (fs : List (List ℕ)) (r : Option (List ℕ)) → Gives fs n r → Gives (g ∷ fs) n r
 later n g fs None h = tt
 later n g fs (Some f) h = (inr h.0, h.1)
 
-gives_by : (b : Bool) (n : NodeNumber) (g : List ℕ) (fs : List (List ℕ)) → is_for n g ≡ b → Gives fs n (first_for n fs) → Gives (g ∷ fs) n (cond b (Some g) (first_for n fs))
-gives_by true n g fs t rest = (inl refl, same_node_lem g n t)
-gives_by false n g fs t rest = later n g fs (first_for n fs) rest
+pub gives_by : (b : Bool) (n : NodeNumber) (g : List ℕ) (fs : List (List ℕ)) (r : Option (List ℕ)) → is_for n g ≡ b → Gives fs n r → Gives (g ∷ fs) n (cond b (Some g) r)
+gives_by true n g fs r t rest = (inl refl, same_node_lem _ n t)
+gives_by false n g fs r t rest = later n g fs r rest
 
 pub gives : (n : NodeNumber) (fs : List (List ℕ)) → Gives fs n (first_for n fs)
 gives n [] = tt
-gives n (g ∷ fs) = gives_by (is_for n g) n g fs refl (gives n fs)
+gives n (g ∷ fs) = gives_by (is_for n g) n g fs (first_for n fs) refl (gives n fs)
 
-leaves_by : (b : Bool) (n : NodeNumber) (g : List ℕ) (fs : List (List ℕ)) (x : List ℕ) → (In x (without_first n fs) → In x fs) → In x (cond b fs (g ∷ without_first n fs)) → In x (g ∷ fs)
-leaves_by true n g fs x rest h = inr h
-leaves_by false n g fs x rest h = ⊎_elim inl (λ i. inr (rest i)) h
+pub leaves_by : (b : Bool) (g : List ℕ) (fs rs : List (List ℕ)) (x : List ℕ) → (In x rs → In x fs) → In x (cond b fs (g ∷ rs)) → In x (g ∷ fs)
+leaves_by true g fs rs x rest h = inr h
+leaves_by false g fs rs x rest h = ⊎_elim inl (λ i. inr (rest i)) h
 
 pub leaves : (n : NodeNumber) (fs : List (List ℕ)) → Leaves fs (without_first n fs)
 leaves n [] x h = h
-leaves n (g ∷ fs) x h = leaves_by (is_for n g) n g fs x (leaves n fs x) h
+leaves n (g ∷ fs) x h = leaves_by (is_for n g) g fs (without_first n fs) x (leaves n fs x) h

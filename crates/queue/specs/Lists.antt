@@ -1,8 +1,10 @@
 -- The frames of a queue, the oldest first.
-use Rattle.std.specs.Prelude.{ℕ, ◌+◌, Bool, cond, List, [], ◌∷◌, ◌++◌, length, Some, None, Option, nat_lt}
+use Rattle.std.specs.Prelude.{ℕ, Bool, cond, List, [], ◌∷◌, ◌++◌, length, Some, None, Option, nat_lt}
+use Rattle.std.specs.List.{position, find}
 use Rattle.elements.specs.declared.node.NodeNumber.{NodeNumber}
 use Rattle.elements.specs.Nodes.{same_node}
-use Rattle.carrier.specs.Datagrams.{travelling}
+use Rattle.carrier.specs.declared.datagram.Datagram.{Datagram}
+use Rattle.carrier.specs.Datagrams.{octets_in, travelling}
 use Rattle.carrier.specs.Octets.{destination_of}
 
 -- is this frame destined for this node?
@@ -10,13 +12,11 @@ abbrev pub is_for : NodeNumber → List ℕ → Bool
 is_for n f = same_node (destination_of f) n
 
 -- where the first frame for a node stands
-abbrev pub place : NodeNumber → List (List ℕ) → ℕ
-place n [] = 0
-place n (f ∷ fs) = cond (is_for n f) 0 (1 + place n fs)
+abbrev pub place : NodeNumber → List Datagram → Option ℕ
+place n ds = position (λ d. is_for n (octets_in d)) ds
 
 abbrev pub first_for : NodeNumber → List (List ℕ) → Option (List ℕ)
-first_for n [] = None
-first_for n (f ∷ fs) = cond (is_for n f) (Some f) (first_for n fs)
+first_for n fs = find (is_for n) fs
 
 abbrev pub without_first : NodeNumber → List (List ℕ) → List (List ℕ)
 without_first n [] = []

@@ -1,7 +1,6 @@
 // How a queue carries.
-ghost use Rattle.std.specs.Prelude.{◌≡◌, List, [], map, IfOk};
+ghost use Rattle.std.specs.Prelude.{◌≡◌, [], IfOk};
 ghost use Rattle.std.proofs.Common.{sym, subst};
-ghost use Rattle.carrier.specs.Datagrams.{octets_in};
 ghost use Rattle.queue.specs.Lists.{place, first_for, without_first, added};
 ghost use Rattle.queue.specs.Model.{frames_of};
 ghost use Rattle.carrier.specs.Waiting.{Adds, Gives, Leaves};
@@ -16,16 +15,11 @@ use std::alloc::{AllocError, Global};
 // A queue is full with so many frames.
 const FULL: usize = 512;
 
-// Where the oldest frame for a node stands; the length where there is none.
-pub fn oldest(frames: &[Datagram], node: NodeNumber) -> usize
-    ensures { result ≡ place node (map octets_in frames.now) }
+// Where the oldest frame for a node stands.
+pub fn oldest(frames: &[Datagram], node: NodeNumber) -> Option<usize>
+    ensures { result ≡ place node frames.now }
 {
-    for (i, frame) in frames.iter().enumerate() {
-        if frame.destination().is(node) {
-            return i;
-        }
-    }
-    frames.len()
+    frames.iter().position(|frame| frame.destination() == node)
 }
 
 impl Queue {
@@ -54,18 +48,14 @@ impl Carrier for Queue {
 
     fn put(&mut self, octets: &[u8]) {
         if self.frames.len() < FULL {
-            if let Some(frame) = Datagram::from_octets(octets) {
+            if let Ok(frame) = Datagram::try_from(octets) {
                 let _ = self.frames.push(frame);
             }
         }
     }
 
     fn take(&mut self, node: NodeNumber) -> Option<Datagram> {
-        let i = oldest(&self.frames, node);
-        if i < self.frames.len() {
-            Some(self.frames.remove(i))
-        } else {
-            None
-        }
+        let i = oldest(&self.frames, node)?;
+        Some(self.frames.remove(i))
     }
 }

@@ -1,6 +1,5 @@
 -- What a slip carrier does is what a carrier may do, in each mode.
 use Rattle.std.specs.Prelude.{◌≡◌, ℕ, Bool, true, false, cond, List, [], ◌∷◌, Some, None, refl}
-use Rattle.std.proofs.Common.{inl, inr, ⊎_elim}
 use Rattle.elements.specs.declared.node.NodeNumber.{NodeNumber}
 use Rattle.carrier.specs.Waiting.{In, Gives, Leaves}
 use Rattle.queue.specs.Lists.{is_for}
@@ -11,17 +10,15 @@ use Rattle.slip.specs.Lists.{any_for, last_for, without_last, answer_by, left_by
 
 last_by : (a b : Bool) (n : NodeNumber) (g : List ℕ) (fs : List (List ℕ)) → is_for n g ≡ b → Gives fs n (last_for n fs) → Gives (g ∷ fs) n (cond a (last_for n fs) (cond b (Some g) None))
 last_by true b n g fs t rest = queue.later n g fs (last_for n fs) rest
-last_by false true n g fs t rest = (inl refl, queue.same_node_lem g n t)
-last_by false false n g fs t rest = tt
+last_by false b n g fs t rest = queue.gives_by b n g fs None t tt
 
 last_gives : (n : NodeNumber) (fs : List (List ℕ)) → Gives fs n (last_for n fs)
 last_gives n [] = tt
 last_gives n (g ∷ fs) = last_by (any_for n fs) (is_for n g) n g fs refl (last_gives n fs)
 
 left_by_lem : (a b : Bool) (n : NodeNumber) (g : List ℕ) (fs : List (List ℕ)) (x : List ℕ) → (In x (without_last n fs) → In x fs) → In x (cond a (g ∷ without_last n fs) (cond b fs (g ∷ fs))) → In x (g ∷ fs)
-left_by_lem true b n g fs x rest h = ⊎_elim inl (λ i. inr (rest i)) h
-left_by_lem false true n g fs x rest h = inr h
-left_by_lem false false n g fs x rest h = h
+left_by_lem true b n g fs x rest h = queue.leaves_by false g fs (without_last n fs) x rest h
+left_by_lem false b n g fs x rest h = queue.leaves_by b g fs fs x (λ i. i) h
 
 last_leaves : (n : NodeNumber) (fs : List (List ℕ)) → Leaves fs (without_last n fs)
 last_leaves n [] x h = h

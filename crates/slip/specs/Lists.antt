@@ -1,6 +1,8 @@
 -- What a take answers and leaves, by mode.
-use Rattle.std.specs.Prelude.{◌≡◌, ℕ, ◌+◌, ◌<◌, ◌≤◌, Bool, true, false, cond, List, [], ◌∷◌, length, drop, Some, None, Option, slice_index_or}
+use Rattle.std.specs.Prelude.{◌≡◌, ℕ, ◌<◌, Bool, true, false, cond, List, [], ◌∷◌, length, Some, None, Option, MatchOption, IfSome, slice_get}
 use Rattle.elements.specs.declared.node.NodeNumber.{NodeNumber}
+use Rattle.carrier.specs.declared.datagram.Datagram.{Datagram}
+use Rattle.carrier.specs.Datagrams.{octets_in}
 use Rattle.queue.specs.Lists.{is_for, first_for, without_first}
 use Rattle.slip.specs.declared.script.Mode.{Mode}
 use Rattle.slip.specs.declared.script.Mode.TheVariants.{GiveOldest, GiveNewest, GiveAndKeepOldest, LoseOldest}
@@ -18,9 +20,11 @@ abbrev pub without_last : NodeNumber → List (List ℕ) → List (List ℕ)
 without_last n [] = []
 without_last n (f ∷ fs) = cond (any_for n fs) (f ∷ without_last n fs) (cond (is_for n f) fs (f ∷ fs))
 
--- the newest frame for a node stands at r, or none does and r is past the end
-abbrev pub Newest : NodeNumber → List (List ℕ) → ℕ → Type 0
-Newest n fs r = (r < length fs → (is_for n (slice_index_or fs r []) ≡ true) × (any_for n (drop (r + 1) fs) ≡ false)) × (length fs ≤ r → any_for n fs ≡ false)
+-- the newest frame for a node stands at r, or none does
+abbrev pub Newest : NodeNumber → List Datagram → Option ℕ → Type 0
+Newest n ds r = MatchOption r
+    ((k : ℕ) → IfSome (slice_get ds k) (λ d. is_for n (octets_in d) ≡ false))
+    (λ i. (i < length ds) × IfSome (slice_get ds i) (λ d. is_for n (octets_in d) ≡ true) × ((k : ℕ) → i < k → IfSome (slice_get ds k) (λ d. is_for n (octets_in d) ≡ false)))
 
 abbrev pub answer_by : Mode → NodeNumber → List (List ℕ) → Option (List ℕ)
 answer_by GiveOldest n fs = first_for n fs

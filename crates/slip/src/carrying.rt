@@ -70,7 +70,7 @@ impl Carrier for Slip {
     }
 
     fn take(&mut self, node: NodeNumber) -> Option<Datagram> {
-        let octet = self.script.next();
-        take_by(&mut self.queue, Mode::from_octet(octet), node)
+        let mode = Mode::from(self.script.next());
+        take_by(&mut self.queue, mode, node)
     }
 }

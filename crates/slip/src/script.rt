@@ -1,9 +1,10 @@
 // The script of a slip carrier: an octet for each take.
-ghost use Rattle.std.specs.Prelude.{◌≡◌, ◌%◌, ◌≤◌, List, drop, IfOk, slice_index};
+ghost use Rattle.std.specs.Prelude.{◌≡◌, drop, IfOk, slice_index};
 ghost use Rattle.slip.specs.Modes.{mode_of};
 ghost use Rattle.slip.specs.Scripts.{octets_left};
 
 use std::alloc::{AllocError, Global};
+use std::vec;
 
 // What one take does.
 #[derive(Clone, Copy, PartialEq)]
@@ -14,11 +15,11 @@ pub enum Mode {
     LoseOldest,
 }
 
-impl Mode {
-    // An octet counts modulo 4.
-    pub fn from_octet(octet: u8) -> Mode
-        ensures { result ≡ mode_of octet }
-    {
+// An octet counts modulo 4.
+impl From<u8> for Mode {
+    ghost from_gives = { λ octet mode. mode ≡ mode_of octet };
+
+    fn from(octet: u8) -> Mode {
         match octet % 4 {
             0 => Mode::GiveOldest,
             1 => Mode::GiveNewest,
@@ -28,19 +29,18 @@ impl Mode {
     }
 }
 
-// The octets from `spent` on are still to come.
+// The octets that are still to come.
 #[derive(Drop)]
 pub struct Script {
-    pub octets: Vec<u8>,
-    pub spent: usize,
+    pub octets: vec::IntoIter<u8>,
 }
 
 impl Script {
     pub fn new(heap: Global, octets: &[u8]) -> Result<Script, AllocError>
         ensures { IfOk result (λ s. octets_left s ≡ octets.now) }
     {
-        let octets = octets.to_vec(heap)?;
-        Ok(Script { octets, spent: 0 })
+        let octets = octets.to_vec(heap)?.into_iter();
+        Ok(Script { octets })
     }
 
     // Spends the next octet; a spent script reads 0.
@@ -48,12 +48,6 @@ impl Script {
         ensures octet { result ≡ slice_index (octets_left self.old) 0 }
         ensures left { octets_left self.new ≡ drop 1 (octets_left self.old) }
     {
-        if self.spent < self.octets.len() {
-            let octet = self.octets[self.spent];
-            self.spent += 1;
-            octet
-        } else {
-            0
-        }
+        self.octets.next().unwrap_or(0)
     }
 }

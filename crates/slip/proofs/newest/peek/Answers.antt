@@ -1,10 +1,16 @@
-use Rattle.std.proofs.Common.{vec_items, refl, arith}
-use Rattle.std.specs.List.{remove}
-use Rattle.queue.proofs.Steps.{taken, untaken}
+use Rattle.std.proofs.Common.{◌≡◌, Some, None, vec_items, rules}
+use Rattle.queue.specs.Lists.{place}
+use Rattle.queue.proofs.Places.{taken, untaken}
 use Rattle.slip.proofs.newest.peek.Goals as goal
 
-pub returns-then-i-len : goal.returns-then-i-len
-returns-then-i-len c = (taken c.args.node (vec_items c.args.queue.now.frames) (remove (vec_items c.args.queue.now.frames) c.oldest-i.result) _ c.oldest-i.result c.index.result.now c.deref.ensures.value c.oldest-i.ensures (omega arith) c.index.ensures refl).0
+pub returns-in_err-i : goal.returns-in_err-i
+returns-in_err-i c =
+    let none : place c.args.node (vec_items c.args.queue.now.frames) ≡ None = search rules in
+    let r = untaken c.args.node _ none in
+    search (rules, r)
 
-pub returns-else-i-len : goal.returns-else-i-len
-returns-else-i-len c = (untaken c.args.node _ _ _ c.deref.ensures.value c.oldest-i.ensures (omega arith)).0
+pub returns : goal.returns
+returns c =
+    let at : place c.args.node (vec_items c.args.queue.now.frames) ≡ Some c.in_ok-i.i = search rules in
+    let r = taken c.args.node _ _ _ at c.index.ensures in
+    search (rules, r)

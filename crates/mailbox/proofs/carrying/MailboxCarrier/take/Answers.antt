@@ -1,23 +1,32 @@
-use Rattle.std.proofs.Common.{take, set, ap, ◌∙◌}
-use Rattle.mailbox.specs.Slots.{distinct}
+use Rattle.std.proofs.Common.{◌≡◌, length, get_or, set, Some, None, ap, ◌∙◌, rules}
+use Rattle.std.specs.List.{refill}
+use Rattle.carrier.proofs.Elements.{written}
+use Rattle.mailbox.specs.Model.{slots_of}
+use Rattle.mailbox.specs.Slots.{waits_for, place, distinct}
 use Rattle.mailbox.proofs.Steps.{takes_first, takes_none, keeps_apart}
 use Rattle.mailbox.proofs.carrying.MailboxCarrier.take.Goals as goal
 
+pub returns-in_err-i : goal.returns-in_err-i
+returns-in_err-i c =
+    let none : place (waits_for c.args.node) (slots_of c.args.self.now) ≡ None = search rules in
+    let r = takes_none c.args.node _ none in
+    search (rules, r)
+
 pub invariant_of-self : goal.invariant_of-self
 invariant_of-self c =
-    let m = c.args.self.now in
-    let i = c.place_for-i.result in
-    let r = keeps_apart c.args.node m.slots m.count i c.place_for-i.ensures.long c.place_for-i.ensures.at c.index-self-i.result c.if-i-self.true m.pairs in
-    record { few = m.few; pairs = ap (λ e. distinct (take m.count (set m.slots i e))) c.emptied.ensures ∙ r }
+    let es = slots_of c.args.self.now in
+    let i = c.in_ok-i.i in
+    let at : place (waits_for c.args.node) es ≡ Some i = search rules in
+    let is = c.index-deref-i.is ∙ ap (λ zs. get_or zs i c.index-deref-i.result) c.deref.ensures.0 in
+    let all = ap (λ zs. refill (length es) es (set zs i c.emptied.result)) c.deref_mut.ensures.value ∙ written es i _ ∙ ap (set es i) c.emptied.ensures in
+    record { pairs = ap distinct all ∙ keeps_apart c.args.node es i c.index-deref-i.result at is c.args.self.now.pairs }
 
-pub returns-then-i-self : goal.returns-then-i-self
-returns-then-i-self c =
-    let m = c.args.self.now in
-    let i = c.place_for-i.result in
-    let r = takes_first c.args.node m.slots m.count i c.place_for-i.ensures.long c.place_for-i.ensures.at c.index-self-i.result c.if-i-self.true in
-    (r.0, ap (λ e. take m.count (set m.slots i e)) c.emptied.ensures ∙ r.1)
-
-pub returns-else-i-self : goal.returns-else-i-self
-returns-else-i-self c =
-    let m = c.args.self.now in
-    takes_none c.args.node m.slots m.count c.place_for-i.result c.place_for-i.ensures.long c.place_for-i.ensures.at c.if-i-self.false
+pub returns : goal.returns
+returns c =
+    let es = slots_of c.args.self.now in
+    let i = c.in_ok-i.i in
+    let at : place (waits_for c.args.node) es ≡ Some i = search rules in
+    let is = c.index-deref-i.is ∙ ap (λ zs. get_or zs i c.index-deref-i.result) c.deref.ensures.0 in
+    let r = takes_first c.args.node es i c.index-deref-i.result at is in
+    let all = ap (λ zs. refill (length es) es (set zs i c.emptied.result)) c.deref_mut.ensures.value ∙ written es i _ ∙ ap (set es i) c.emptied.ensures in
+    (r.0, all ∙ r.1)

@@ -1,34 +1,47 @@
-use Rattle.std.proofs.Common.{◌+◌, take, set, ap, ◌∙◌, arith}
+use Rattle.std.proofs.Common.{◌<◌, ◌≤◌, ◌++◌, [], ◌∷◌, length, get_or, set, Some, None, ap, ◌∙◌, rules}
+use Rattle.std.specs.List.{refill}
+use Rattle.carrier.proofs.Elements.{written}
+use Rattle.mailbox.specs.Model.{slots_of}
 use Rattle.mailbox.specs.Slots.{distinct}
 use Rattle.mailbox.specs.Pairs.{noted_distinct}
-use Rattle.mailbox.proofs.Steps.{renews, adds_slot, loses}
+use Rattle.mailbox.proofs.Steps.{place_of, renews, adds_slot, loses}
 use Rattle.mailbox.proofs.mailbox.Mailbox.note.Goals as goal
+
+pub returns-in-Some : goal.returns-in-Some
+returns-in-Some c =
+    let es = slots_of c.args.self.now in
+    let i = c.in-Some.i in
+    let at = place_of c.args.frame es _ _ (Some i) c.route.ensures c.slot_of.ensures (search rules) in
+    let is = c.index-deref-i.is ∙ ap (λ zs. get_or zs i c.index-deref-i.result) c.deref.ensures.0 in
+    ap (λ zs. refill (length es) es (set zs i c.renewed.result)) c.deref_mut.ensures.value ∙ written es i _ ∙ ap (set es i) c.renewed.ensures ∙ renews c.args.frame es i c.index-deref-i.result at is
 
 pub invariant_of-self : goal.invariant_of-self
 invariant_of-self c =
-    let m = c.args.self.now in
-    let i = c.place_of-i.result in
-    let r = renews c.args.frame m.slots m.count i c.place_of-i.ensures.long c.place_of-i.ensures.at c.index-self-i.result c.if-i-self.true in
-    record { few = m.few; pairs = ap (λ e. distinct (take m.count (set m.slots i e))) c.renewed.ensures ∙ ap distinct r ∙ noted_distinct c.args.frame (take m.count m.slots) m.pairs }
+    let es = slots_of c.args.self.now in
+    let i = c.in-Some.i in
+    let at = place_of c.args.frame es _ _ (Some i) c.route.ensures c.slot_of.ensures (search rules) in
+    let is = c.index-deref-i.is ∙ ap (λ zs. get_or zs i c.index-deref-i.result) c.deref.ensures.0 in
+    let all = ap (λ zs. refill (length es) es (set zs i c.renewed.result)) c.deref_mut.ensures.value ∙ written es i _ ∙ ap (set es i) c.renewed.ensures ∙ renews c.args.frame es i c.index-deref-i.result at is in
+    record { pairs = ap distinct all ∙ noted_distinct c.args.frame es c.args.self.now.pairs }
 
-pub invariant_of-self-then-self-lt-PAIRS : goal.invariant_of-self-then-self-lt-PAIRS
-invariant_of-self-then-self-lt-PAIRS c =
-    let m = c.args.self.now in
-    let r = adds_slot c.args.frame m.slots m.count c.place_of-i.result c.place_of-i.ensures.long c.place_of-i.ensures.at c.if-i-self.false (omega arith) (omega arith) in
-    record { few = omega arith; pairs = ap (λ e. distinct (take (m.count + 1) (set m.slots m.count e))) c.new.ensures ∙ ap distinct r ∙ noted_distinct c.args.frame (take m.count m.slots) m.pairs }
+pub returns-then-not-is_full : goal.returns-then-not-is_full
+returns-then-not-is_full c =
+    let es = slots_of c.args.self.now in
+    let at = place_of c.args.frame es _ _ None c.route.ensures c.slot_of.ensures (search rules) in
+    let room : length es < 16 = search rules in
+    c.push.ensures.items ∙ ap (λ e. es ++ e ∷ []) c.new.ensures ∙ adds_slot c.args.frame es at room
 
-pub returns-then-i-self : goal.returns-then-i-self
-returns-then-i-self c =
-    let m = c.args.self.now in
-    let i = c.place_of-i.result in
-    ap (λ e. take m.count (set m.slots i e)) c.renewed.ensures ∙ renews c.args.frame m.slots m.count i c.place_of-i.ensures.long c.place_of-i.ensures.at c.index-self-i.result c.if-i-self.true
+pub invariant_of-self-then-not-is_full : goal.invariant_of-self-then-not-is_full
+invariant_of-self-then-not-is_full c =
+    let es = slots_of c.args.self.now in
+    let at = place_of c.args.frame es _ _ None c.route.ensures c.slot_of.ensures (search rules) in
+    let room : length es < 16 = search rules in
+    let all = c.push.ensures.items ∙ ap (λ e. es ++ e ∷ []) c.new.ensures ∙ adds_slot c.args.frame es at room in
+    record { pairs = ap distinct all ∙ noted_distinct c.args.frame es c.args.self.now.pairs }
 
-pub returns-then-self-lt-PAIRS : goal.returns-then-self-lt-PAIRS
-returns-then-self-lt-PAIRS c =
-    let m = c.args.self.now in
-    ap (λ e. take (m.count + 1) (set m.slots m.count e)) c.new.ensures ∙ adds_slot c.args.frame m.slots m.count c.place_of-i.result c.place_of-i.ensures.long c.place_of-i.ensures.at c.if-i-self.false (omega arith) (omega arith)
-
-pub returns-else-self-lt-PAIRS : goal.returns-else-self-lt-PAIRS
-returns-else-self-lt-PAIRS c =
-    let m = c.args.self.now in
-    loses c.args.frame m.slots m.count c.place_of-i.result c.place_of-i.ensures.long c.place_of-i.ensures.at c.if-i-self.false (omega arith)
+pub returns-else-not-is_full : goal.returns-else-not-is_full
+returns-else-not-is_full c =
+    let es = slots_of c.args.self.now in
+    let at = place_of c.args.frame es _ _ None c.route.ensures c.slot_of.ensures (search rules) in
+    let full : 16 ≤ length es = search rules in
+    loses c.args.frame es at full

@@ -1,11 +1,16 @@
-use Rattle.std.proofs.Common.{arith}
-use Rattle.queue.proofs.Steps.{taken, untaken}
+use Rattle.std.proofs.Common.{◌≡◌, Some, None, vec_items, rules}
+use Rattle.queue.specs.Lists.{place}
+use Rattle.queue.proofs.Places.{taken, untaken}
 use Rattle.queue.proofs.carrying.QueueCarrier.take.Goals as goal
 
-pub returns-then-i-len : goal.returns-then-i-len
-returns-then-i-len c =
-    let e = c.remove.ensures in
-    taken c.args.node _ _ _ _ _ c.deref.ensures.value c.oldest-i.ensures (omega arith) e.value e.items
+pub returns-in_err-i : goal.returns-in_err-i
+returns-in_err-i c =
+    let none : place c.args.node (vec_items c.args.self.now.frames) ≡ None = search rules in
+    let r = untaken c.args.node _ none in
+    search (rules, r)
 
-pub returns-else-i-len : goal.returns-else-i-len
-returns-else-i-len c = untaken c.args.node _ _ _ c.deref.ensures.value c.oldest-i.ensures (omega arith)
+pub returns : goal.returns
+returns c =
+    let at : place c.args.node (vec_items c.args.self.now.frames) ≡ Some c.in_ok-i.i = search rules in
+    let r = taken c.args.node _ _ _ at c.remove.ensures.value in
+    search (rules, r)

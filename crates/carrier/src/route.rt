@@ -1,0 +1,9 @@
+// Where a frame comes from, and where it goes.
+use elements::node::NodeNumber;
+
+// From a node to a node.
+#[derive(Clone, Copy, PartialEq, Eq)]
+pub struct Route {
+    pub source: NodeNumber,
+    pub destination: NodeNumber,
+}
