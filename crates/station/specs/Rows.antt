@@ -39,6 +39,7 @@ later (Some d) = cond (nat_le d.ticks 1) None (Some (record { answers = d.answer
 abbrev pub due_ticked : Row → Row
 due_ticked r = record { recovery = r.recovery; reset = r.reset; due = later r.due }
 
+-- a timer that ends on this tick, and can still be started anew
 abbrev pub runs_out : Option Recovery → Bool
 runs_out None = false
 runs_out (Some v) = v.ticks == 1 && nat_lt 0 v.repeats
@@ -47,6 +48,7 @@ runs_out (Some v) = v.ticks == 1 && nat_lt 0 v.repeats
 abbrev pub repeat_now : Row → Bool
 repeat_now r = runs_out r.recovery
 
+-- one tick of a timer that does not end; a spent one stays spent
 abbrev pub nearer : Option Recovery → Option Recovery
 nearer None = None
 nearer (Some v) = Some (record { ticks = v.ticks - 1; repeats = v.repeats })
@@ -54,6 +56,7 @@ nearer (Some v) = Some (record { ticks = v.ticks - 1; repeats = v.repeats })
 abbrev pub reset_ticked : Row → Row
 reset_ticked r = record { recovery = nearer r.recovery; reset = r.reset; due = r.due }
 
+-- a timer started anew, which spends a repeat
 abbrev pub anew : Option Recovery → Option Recovery
 anew None = None
 anew (Some v) = Some (record { ticks = 6; repeats = v.repeats - 1 })

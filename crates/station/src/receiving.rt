@@ -15,7 +15,7 @@ use imsi::Imsi;
 use messages::message::Message;
 
 // What a delivery brings about. A page order tells the radio side to page the mobile.
-#[derive(Clone, Copy, PartialEq)]
+#[derive(Clone, Copy, PartialEq, Eq)]
 pub enum Delivery {
     Nothing,
     PageOrder {
@@ -64,15 +64,16 @@ pub fn mobile_in(message: Message) -> Option<Imsi>
 {
     match message {
         Message::Reset { .. } | Message::ResetAcknowledge { .. } => None,
-        Message::Paging { imsi, .. } => Some(imsi),
-        Message::PagingFailure { imsi, .. } | Message::MobileStatus { imsi, .. } => Some(imsi),
-        Message::LuRequest { imsi, .. } => Some(imsi),
-        Message::LuAccept { imsi, .. } => Some(imsi),
-        Message::LuReject { imsi, .. } => Some(imsi),
-        Message::GprsDetachIndication { imsi, .. } | Message::GprsDetachAcknowledge { imsi, .. } =>
-            Some(imsi),
-        Message::ImsiDetachIndication { imsi, .. } | Message::ImsiDetachAcknowledge { imsi, .. } =>
-            Some(imsi),
+        Message::Paging { imsi, .. }
+        | Message::PagingFailure { imsi, .. }
+        | Message::MobileStatus { imsi, .. }
+        | Message::LuRequest { imsi, .. }
+        | Message::LuAccept { imsi, .. }
+        | Message::LuReject { imsi, .. }
+        | Message::GprsDetachIndication { imsi, .. }
+        | Message::GprsDetachAcknowledge { imsi, .. }
+        | Message::ImsiDetachIndication { imsi, .. }
+        | Message::ImsiDetachAcknowledge { imsi, .. } => Some(imsi),
     }
 }
 

@@ -29,7 +29,7 @@ pub struct Due {
 pub struct Row {
     // from a loss here until its last RESET is acknowledged
     pub recovery: Option<Recovery>,
-    // the stamp of the last RESET sent, which counts after recovery too
+    // the stamp of the last RESET sent, which counts after recovery too; none is below all
     pub reset: Option<u32>,
     pub due: Option<Due>,
 }
