@@ -35,7 +35,7 @@ impl Sender {
         self.last > WORN_ABOVE
     }
 
-    // Sends one frame with the next stamp, and answers that stamp. A message that may not go takes a stamp too.
+    // Sends one frame with the next stamp, and answers that stamp. What may not go is not put, and takes a stamp too.
     pub fn send<C: InOrder>(&mut self, carrier: &mut C, outgoing: Outgoing) -> u32
         ensures stamp { HasStamps 1 self.old → result ≡ self.old.last + 1 }
         ensures own { self.new.own ≡ self.old.own }
