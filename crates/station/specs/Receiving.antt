@@ -8,10 +8,11 @@ use Rattle.messages.specs.declared.message.Message.{Message}
 use Rattle.messages.specs.declared.message.Message.TheVariants.{Paging, PagingFailure, MobileStatus, LuRequest, LuAccept, LuReject, Reset, ResetAcknowledge, GprsDetachIndication, GprsDetachAcknowledge, ImsiDetachIndication, ImsiDetachAcknowledge}
 use Rattle.frames.specs.declared.frame.Frame.{Frame}
 use Rattle.frames.specs.Format.{frame_in, lawful_frame}
-use Rattle.station.specs.declared.denial.Denial.{Denial}
 use Rattle.station.specs.declared.denial.Denial.TheVariants as denial
 use Rattle.station.specs.declared.receiving.Delivery.{Delivery}
 use Rattle.station.specs.declared.receiving.Delivery.TheVariants as delivery
+use Rattle.station.specs.declared.receiving.Refusal.{Refusal}
+use Rattle.station.specs.declared.receiving.Refusal.TheVariants.{Denied, Faulty}
 use Rattle.station.specs.declared.sending.Outgoing.{Outgoing}
 use Rattle.station.specs.Sends.{is_worn, Sent}
 
@@ -60,10 +61,10 @@ is_from n f = same_node f.source n && names_sender n f.message
 
 -- A delivery at an end, whose state has this node number and last stamp, and which a frame moves so, makes send this and answers so.
 module _ {V : Type 0} (own : V → NodeNumber) (last : V → ℕ) (moved : V → Frame → V) (sends : V → Frame → List Outgoing) (answer : V → Frame → Delivery) where
-  abbrev pub answer_to : V → Option (Result Frame Fault) → Delivery
-  answer_to s None = delivery.Nothing
-  answer_to s (Some (Err e)) = delivery.Fault e
-  answer_to s (Some (Ok f)) = answer s f
+  abbrev pub answer_to : V → Option (Result Frame Fault) → Result Delivery Refusal
+  answer_to s None = Ok delivery.Nothing
+  answer_to s (Some (Err e)) = Err (Faulty e)
+  answer_to s (Some (Ok f)) = Ok (answer s f)
 
   abbrev pub moved_by : V → Option (Result Frame Fault) → V
   moved_by s None = s
@@ -77,17 +78,17 @@ module _ {V : Type 0} (own : V → NodeNumber) (last : V → ℕ) (moved : V →
 
   module _ {C : Type 0} (takes : C → NodeNumber → Option (List ℕ) → C → Type 0) (puts : C → List ℕ → C → Type 0) where
     -- it took once, and did with that what it does with it
-    pub record Took (r : Result Delivery Denial) (s : V) (c : C) (t : V) (d : C) : Type 0 where
+    pub record Took (r : Result Delivery Refusal) (s : V) (c : C) (t : V) (d : C) : Type 0 where
       pub got : Option (Result Frame Fault)
       pub between : C
       pub received : Received takes (own s) got c between
-      pub answered : r ≡ Ok (answer_to s got)
+      pub answered : r ≡ answer_to s got
       pub after : t ≡ moved_by s got
       pub sent : Sent puts (own s) (last s) (sends_by s got) between d
 
-    abbrev pub Asked : Bool → Result Delivery Denial → V → C → V → C → Type 0
-    Asked true r s c t d = (r ≡ Err denial.Worn) × (t ≡ s) × (d ≡ c)
+    abbrev pub Asked : Bool → Result Delivery Refusal → V → C → V → C → Type 0
+    Asked true r s c t d = (r ≡ Err (Denied denial.Worn)) × (t ≡ s) × (d ≡ c)
     Asked false r s c t d = Took r s c t d
 
-    abbrev pub Delivered : Result Delivery Denial → V → C → V → C → Type 0
+    abbrev pub Delivered : Result Delivery Refusal → V → C → V → C → Type 0
     Delivered r s c t d = Asked (is_worn (last s)) r s c t d

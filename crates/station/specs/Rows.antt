@@ -1,22 +1,28 @@
 -- What an end keeps of its peer, and what changes it.
-use Rattle.std.specs.Prelude.{ℕ, ◌-◌, Bool, true, false, cond, ◌&&◌, Some, None, Option, ◌==◌, nat_le, nat_lt}
+use Rattle.std.specs.Prelude.{ℕ, ◌-◌, Bool, false, cond, ◌&&◌, Some, None, Option, is_some, ◌==◌, nat_le, nat_lt}
+use Rattle.station.specs.declared.row.Recovery.{Recovery}
 use Rattle.station.specs.declared.row.Due.{Due}
 use Rattle.station.specs.declared.row.Row.{Row}
 
 abbrev pub new_row : Row
-new_row = record { recovering = false; reset = 0; ticks = 0; repeats = 0; due = None }
+new_row = record { recovery = None; reset = None; due = None }
 
 -- a loss, told by a RESET with this stamp: it is repeated after 6 ticks, three times
 abbrev pub lost_row : Row → ℕ → Row
-lost_row r n = record { recovering = true; reset = n; ticks = 6; repeats = 3; due = r.due }
+lost_row r n = record { recovery = Some (record { ticks = 6; repeats = 3 }); reset = Some n; due = r.due }
 
 -- a RESET was taken: it is acknowledged 2 ticks later
 abbrev pub reset_taken : Row → ℕ → Row
-reset_taken r n = record { recovering = r.recovering; reset = r.reset; ticks = r.ticks; repeats = r.repeats; due = Some (record { answers = n; ticks = 2 }) }
+reset_taken r n = record { recovery = r.recovery; reset = r.reset; due = Some (record { answers = n; ticks = 2 }) }
+
+-- is this the stamp of the last RESET sent?
+abbrev pub is_last : Option ℕ → ℕ → Bool
+is_last None n = false
+is_last (Some m) n = n == m
 
 -- an acknowledgement of the last RESET ends recovery, any other changes nothing
 abbrev pub acknowledged : Row → ℕ → Row
-acknowledged r n = cond (r.recovering && n == r.reset) (record { recovering = false; reset = r.reset; ticks = 0; repeats = 0; due = r.due }) r
+acknowledged r n = cond (is_some r.recovery && is_last r.reset n) (record { recovery = None; reset = r.reset; due = r.due }) r
 
 abbrev pub expired : Option Due → Option ℕ
 expired None = None
@@ -31,14 +37,29 @@ later None = None
 later (Some d) = cond (nat_le d.ticks 1) None (Some (record { answers = d.answers; ticks = d.ticks - 1 }))
 
 abbrev pub due_ticked : Row → Row
-due_ticked r = record { recovering = r.recovering; reset = r.reset; ticks = r.ticks; repeats = r.repeats; due = later r.due }
+due_ticked r = record { recovery = r.recovery; reset = r.reset; due = later r.due }
+
+-- a timer that ends on this tick, and can still be started anew
+abbrev pub runs_out : Option Recovery → Bool
+runs_out None = false
+runs_out (Some v) = v.ticks == 1 && nat_lt 0 v.repeats
 
 -- is the RESET repeated on this tick?
 abbrev pub repeat_now : Row → Bool
-repeat_now r = r.recovering && (r.ticks == 1 && nat_lt 0 r.repeats)
+repeat_now r = runs_out r.recovery
+
+-- one tick of a timer that does not end; a spent one stays spent
+abbrev pub nearer : Option Recovery → Option Recovery
+nearer None = None
+nearer (Some v) = Some (record { ticks = v.ticks - 1; repeats = v.repeats })
 
 abbrev pub reset_ticked : Row → Row
-reset_ticked r = record { recovering = r.recovering; reset = r.reset; ticks = r.ticks - 1; repeats = r.repeats; due = r.due }
+reset_ticked r = record { recovery = nearer r.recovery; reset = r.reset; due = r.due }
+
+-- a timer started anew, which spends a repeat
+abbrev pub anew : Option Recovery → Option Recovery
+anew None = None
+anew (Some v) = Some (record { ticks = 6; repeats = v.repeats - 1 })
 
 abbrev pub repeated : Row → ℕ → Row
-repeated r n = record { recovering = r.recovering; reset = n; ticks = 6; repeats = r.repeats - 1; due = r.due }
+repeated r n = record { recovery = anew r.recovery; reset = Some n; due = r.due }

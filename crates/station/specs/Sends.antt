@@ -1,10 +1,12 @@
 -- Frames that an end sends: each takes the next stamp.
-use Rattle.std.specs.Prelude.{ℕ, ◌+◌, Bool, not, List, [], ◌∷◌, map, nat_le}
+use Rattle.std.specs.Prelude.{ℕ, ◌+◌, ◌<◌, Bool, not, ◌&&◌, List, [], ◌∷◌, map, nat_le}
 use Rattle.elements.specs.declared.node.NodeNumber.{NodeNumber}
 use Rattle.frames.specs.declared.frame.Frame.{Frame}
-use Rattle.frames.specs.Format.{frame_octets}
+use Rattle.frames.specs.Format.{lawful_nodes, frame_octets}
 use Rattle.carrier.specs.Chains.{PutsAll}
+use Rattle.messages.specs.Lawful.{lawful_message}
 use Rattle.station.specs.declared.sending.Outgoing.{Outgoing}
+use Rattle.station.specs.declared.sending.Sender.{Sender}
 
 -- an end whose last stamp is above this is worn
 abbrev pub worn_above : ℕ
@@ -12,6 +14,14 @@ worn_above = 4294965000
 
 abbrev pub is_worn : ℕ → Bool
 is_worn last = not (nat_le last worn_above)
+
+-- this end has so many stamps left
+abbrev pub HasStamps : ℕ → Sender → Type 0
+HasStamps n s = s.last + n < 4294967296
+
+-- a lawful message, between two different lawful nodes
+abbrev pub may_go : NodeNumber → Outgoing → Bool
+may_go own s = lawful_nodes own s.to && lawful_message s.message
 
 -- the frame that an end sends behind this last stamp
 abbrev pub frame_of : NodeNumber → ℕ → Outgoing → Frame

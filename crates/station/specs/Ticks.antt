@@ -1,10 +1,17 @@
 -- One tick of what an end keeps of its peer: first the acknowledgement that is due, then the RESET's repeat.
-use Rattle.std.specs.Prelude.{ℕ, ◌+◌, cond, List, [], ◌∷◌, ◌++◌, length, Some, None, Option}
+use Rattle.std.specs.Prelude.{◌≡◌, ℕ, ◌+◌, true, cond, List, [], ◌∷◌, ◌++◌, length, Some, None, Option}
 use Rattle.elements.specs.declared.node.NodeNumber.{NodeNumber}
+use Rattle.frames.specs.Format.{lawful_nodes}
 use Rattle.messages.specs.declared.message.Message.TheVariants.{Reset, ResetAcknowledge}
 use Rattle.station.specs.declared.row.Row.{Row}
 use Rattle.station.specs.declared.sending.Outgoing.{Outgoing}
+use Rattle.station.specs.declared.sending.Sender.{Sender}
+use Rattle.station.specs.Sends.{HasStamps}
 use Rattle.station.specs.Rows.{due_now, repeat_now, due_ticked, reset_ticked, repeated}
+
+-- the peer is another lawful node, and this end has so many stamps left
+abbrev pub CanReach : NodeNumber → ℕ → Sender → Type 0
+CanReach peer n s = HasStamps n s × (lawful_nodes s.own peer ≡ true)
 
 -- an end tells its peer that it lost its marks
 abbrev pub reset_to : NodeNumber → NodeNumber → Outgoing

@@ -3,36 +3,36 @@ ghost use Rattle.std.specs.Prelude.{◌≡◌};
 ghost use Rattle.station.specs.Denials.{denial_number};
 
 // In the order in which the questions are asked. The first no denies the call, and the call then changes nothing.
-#[derive(Clone, Copy, PartialEq)]
+#[derive(Clone, Copy, Debug, PartialEq, Eq)]
 pub enum Denial {
     // the end has hardly a stamp left
-    Worn,
+    Worn = 1,
     // a code that is not listed
-    UnlistedCode,
+    UnlistedCode = 2,
     // no IMSI: not 1 to 15 digits, or a value that they cannot write
-    UnlawfulImsi,
+    UnlawfulImsi = 3,
     // the mobile is enrolled already
-    NotNew,
+    NotNew = 4,
     // every place holds a record
-    NoPlace,
+    NoPlace = 5,
     // the mobile is not enrolled here
-    NotEnrolled,
+    NotEnrolled = 6,
     // the mobile has no voice service
-    WrongClass,
+    WrongClass = 7,
     // the VLR is not this SGSN's
-    NotItsVlr,
+    NotItsVlr = 8,
     // a reply is owed to the mobile
-    ReplyOwed,
+    ReplyOwed = 9,
     // the mobile is not attached
-    NotAttached,
+    NotAttached = 10,
     // the mark does not allow it
-    WrongMark,
+    WrongMark = 11,
     // no such reply is owed here
-    NoSuchReply,
+    NoSuchReply = 12,
     // there is no verdict yet
-    NoVerdict,
+    NoVerdict = 13,
     // the node numbers are not lawful and different, or there are too many or too few
-    WrongNumbers,
+    WrongNumbers = 14,
 }
 
 impl Denial {
@@ -40,21 +40,6 @@ impl Denial {
     pub fn number(self) -> u8
         ensures { result ≡ denial_number self }
     {
-        match self {
-            Denial::Worn => 1,
-            Denial::UnlistedCode => 2,
-            Denial::UnlawfulImsi => 3,
-            Denial::NotNew => 4,
-            Denial::NoPlace => 5,
-            Denial::NotEnrolled => 6,
-            Denial::WrongClass => 7,
-            Denial::NotItsVlr => 8,
-            Denial::ReplyOwed => 9,
-            Denial::NotAttached => 10,
-            Denial::WrongMark => 11,
-            Denial::NoSuchReply => 12,
-            Denial::NoVerdict => 13,
-            Denial::WrongNumbers => 14,
-        }
+        self as u8
     }
 }

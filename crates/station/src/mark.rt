@@ -3,7 +3,8 @@ ghost use Rattle.std.specs.Prelude.{◌≡◌};
 ghost use Rattle.station.specs.Marks.{doubted, node_in};
 
 // `N` is the kind of the other end's number: a VLR's in the SGSN's table, the SGSN's in a VLR's.
-#[derive(Clone, Copy)]
+// Not an Option of a node and its sureness: users know the three marks by these names.
+#[derive(Clone, Copy, Debug, PartialEq, Eq)]
 pub enum Mark<N> {
     // no node
     None,

@@ -1,7 +1,9 @@
 // How an end takes a frame.
 ghost use Rattle.std.specs.Prelude.{◌≡◌};
+ghost use Rattle.station.specs.declared.receiving.Refusal.TheVariants.{Denied, Faulty};
 ghost use Rattle.station.specs.Receiving.{LawfulIn, Received, is_from, mobile_in, names_sender};
 
+use crate::denial::Denial;
 use carrier::carrier::Carrier;
 use carrier::datagram::Datagram;
 use carrier::in_order::InOrder;
@@ -12,8 +14,8 @@ use frames::reading::read_frame;
 use imsi::Imsi;
 use messages::message::Message;
 
-// What a delivery answers. A page order tells the radio side to page the mobile.
-#[derive(Clone, Copy)]
+// What a delivery brings about. A page order tells the radio side to page the mobile.
+#[derive(Clone, Copy, PartialEq, Eq)]
 pub enum Delivery {
     Nothing,
     PageOrder {
@@ -22,7 +24,29 @@ pub enum Delivery {
         channel: Option<u8>,
     },
     Done,
-    Fault(Fault),
+}
+
+// Why a delivery brings nothing about: the end made no call, or what came is no frame.
+#[derive(Clone, Copy, PartialEq)]
+pub enum Refusal {
+    Denied(Denial),
+    Faulty(Fault),
+}
+
+impl From<Denial> for Refusal {
+    ghost from_gives = { λ denial refusal. refusal ≡ Denied denial };
+
+    fn from(denial: Denial) -> Refusal {
+        Refusal::Denied(denial)
+    }
+}
+
+impl From<Fault> for Refusal {
+    ghost from_gives = { λ fault refusal. refusal ≡ Faulty fault };
+
+    fn from(fault: Fault) -> Refusal {
+        Refusal::Faulty(fault)
+    }
 }
 
 // Takes once for a node, and reads what was given.
@@ -30,10 +54,8 @@ pub fn take_frame<C: InOrder>(carrier: &mut C, node: NodeNumber) -> Option<Resul
     ensures received { Received C.Carrier.takes node result carrier.old carrier.new }
     ensures lawful { LawfulIn result }
 {
-    match InOrder::take(carrier, node) {
-        Some(datagram) => Some(read_frame(datagram.as_slice())),
-        None => None,
-    }
+    let datagram = InOrder::take(carrier, node)?;
+    Some(read_frame(datagram.as_slice()))
 }
 
 // The mobile that a message is about; RESET and its acknowledgement are about none.
@@ -42,15 +64,16 @@ pub fn mobile_in(message: Message) -> Option<Imsi>
 {
     match message {
         Message::Reset { .. } | Message::ResetAcknowledge { .. } => None,
-        Message::Paging { imsi, .. } => Some(imsi),
-        Message::PagingFailure { imsi, .. } | Message::MobileStatus { imsi, .. } => Some(imsi),
-        Message::LuRequest { imsi, .. } => Some(imsi),
-        Message::LuAccept { imsi, .. } => Some(imsi),
-        Message::LuReject { imsi, .. } => Some(imsi),
-        Message::GprsDetachIndication { imsi, .. } | Message::GprsDetachAcknowledge { imsi, .. } =>
-            Some(imsi),
-        Message::ImsiDetachIndication { imsi, .. } | Message::ImsiDetachAcknowledge { imsi, .. } =>
-            Some(imsi),
+        Message::Paging { imsi, .. }
+        | Message::PagingFailure { imsi, .. }
+        | Message::MobileStatus { imsi, .. }
+        | Message::LuRequest { imsi, .. }
+        | Message::LuAccept { imsi, .. }
+        | Message::LuReject { imsi, .. }
+        | Message::GprsDetachIndication { imsi, .. }
+        | Message::GprsDetachAcknowledge { imsi, .. }
+        | Message::ImsiDetachIndication { imsi, .. }
+        | Message::ImsiDetachAcknowledge { imsi, .. } => Some(imsi),
     }
 }
 
@@ -59,7 +82,7 @@ fn names_sender(message: Message, sender: NodeNumber) -> bool
     ensures { result ≡ names_sender sender message }
 {
     match message {
-        Message::Reset { entity } | Message::ResetAcknowledge { entity } => entity.is(sender),
+        Message::Reset { entity } | Message::ResetAcknowledge { entity } => entity == sender,
         _ => true,
     }
 }
@@ -68,5 +91,5 @@ fn names_sender(message: Message, sender: NodeNumber) -> bool
 pub fn is_from(frame: Frame, peer: NodeNumber) -> bool
     ensures { result ≡ is_from peer frame }
 {
-    frame.source.is(peer) && names_sender(frame.message, peer)
+    frame.source == peer && names_sender(frame.message, peer)
 }

@@ -9,23 +9,28 @@ const REPEATS: u8 = 3;
 // A RESET taken is acknowledged after so many ticks.
 const ACKNOWLEDGE_TICKS: u8 = 2;
 
+// The timer of a RESET that nobody acknowledged yet. Spent repeats do not end recovery: both are 0 then.
+#[derive(Clone, Copy, Debug, PartialEq, Eq)]
+pub struct Recovery {
+    // ticks until the RESET is repeated, 0 when it is not
+    pub ticks: u8,
+    // how often it can still be repeated
+    pub repeats: u8,
+}
+
 // An acknowledgement that is due, of the RESET with the stamp `answers`.
-#[derive(Clone, Copy, PartialEq)]
+#[derive(Clone, Copy, Debug, PartialEq, Eq)]
 pub struct Due {
     pub answers: u32,
     pub ticks: u8,
 }
 
-#[derive(Clone, Copy, PartialEq)]
+#[derive(Clone, Copy, Debug, PartialEq, Eq)]
 pub struct Row {
     // from a loss here until its last RESET is acknowledged
-    pub recovering: bool,
-    // the stamp of the last RESET sent, 0 for none
-    pub reset: u32,
-    // ticks until it is repeated, 0 when it is not
-    pub ticks: u8,
-    // how often it can still be repeated
-    pub repeats: u8,
+    pub recovery: Option<Recovery>,
+    // the stamp of the last RESET sent, which counts after recovery too; none is below all
+    pub reset: Option<u32>,
     pub due: Option<Due>,
 }
 
@@ -34,10 +39,8 @@ impl Row {
         ensures { result ≡ new_row }
     {
         Row {
-            recovering: false,
-            reset: 0,
-            ticks: 0,
-            repeats: 0,
+            recovery: None,
+            reset: None,
             due: None,
         }
     }
@@ -46,11 +49,13 @@ impl Row {
     pub fn lost(self, stamp: u32) -> Row
         ensures { result ≡ lost_row self stamp }
     {
-        Row {
-            recovering: true,
-            reset: stamp,
+        let recovery = Recovery {
             ticks: REPEAT_TICKS,
             repeats: REPEATS,
+        };
+        Row {
+            recovery: Some(recovery),
+            reset: Some(stamp),
             ..self
         }
     }
@@ -73,11 +78,9 @@ impl Row {
     pub fn acknowledged(self, answers: u32) -> Row
         ensures { result ≡ acknowledged self answers }
     {
-        if self.recovering && answers == self.reset {
+        if Some(answers) == self.reset {
             Row {
-                recovering: false,
-                ticks: 0,
-                repeats: 0,
+                recovery: None,
                 ..self
             }
         } else {
@@ -89,30 +92,26 @@ impl Row {
     pub fn due_now(self) -> Option<u32>
         ensures { result ≡ due_now self }
     {
-        match self.due {
-            Some(Due { answers, ticks }) if ticks <= 1 => Some(answers),
-            _ => None,
-        }
+        let due = self.due.filter(|due| due.ticks <= 1)?;
+        Some(due.answers)
     }
 
     // Is the RESET to be repeated on this tick?
     pub fn repeat_now(self) -> bool
         ensures { result ≡ repeat_now self }
     {
-        self.recovering && self.ticks == 1 && self.repeats > 0
+        self.recovery
+            .is_some_and(|recovery| recovery.ticks == 1 && recovery.repeats > 0)
     }
 
     // One tick of the acknowledgement that is due.
     pub fn due_ticked(self) -> Row
         ensures { result ≡ due_ticked self }
     {
-        let due = match self.due {
-            Some(Due { answers, ticks }) if ticks > 1 => Some(Due {
-                answers,
-                ticks: ticks - 1,
-            }),
-            _ => None,
-        };
+        let due = self.due.filter(|due| due.ticks > 1).map(|due| Due {
+            ticks: due.ticks - 1,
+            ..due
+        });
         Row { due, ..self }
     }
 
@@ -120,20 +119,24 @@ impl Row {
     pub fn reset_ticked(self) -> Row
         ensures { result ≡ reset_ticked self }
     {
-        Row {
-            ticks: self.ticks.saturating_sub(1),
-            ..self
-        }
+        let recovery = self.recovery.map(|recovery| Recovery {
+            ticks: recovery.ticks.saturating_sub(1),
+            ..recovery
+        });
+        Row { recovery, ..self }
     }
 
     // The RESET was repeated with this stamp.
     pub fn repeated(self, stamp: u32) -> Row
         ensures { result ≡ repeated self stamp }
     {
-        Row {
-            reset: stamp,
+        let recovery = self.recovery.map(|recovery| Recovery {
             ticks: REPEAT_TICKS,
-            repeats: self.repeats.saturating_sub(1),
+            repeats: recovery.repeats.saturating_sub(1),
+        });
+        Row {
+            recovery,
+            reset: Some(stamp),
             ..self
         }
     }

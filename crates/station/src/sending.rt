@@ -1,8 +1,6 @@
 // How an end sends a frame.
-ghost use Rattle.std.specs.Prelude.{◌≡◌, ◌+◌, ◌<◌, true, [], ◌∷◌};
-ghost use Rattle.frames.specs.Format.{lawful_nodes};
-ghost use Rattle.messages.specs.Lawful.{lawful_message};
-ghost use Rattle.station.specs.Sends.{is_worn, Sent};
+ghost use Rattle.std.specs.Prelude.{◌≡◌, ◌+◌, true, false, [], ◌∷◌};
+ghost use Rattle.station.specs.Sends.{HasStamps, is_worn, may_go, Sent};
 
 use carrier::carrier::Carrier;
 use carrier::in_order::InOrder;
@@ -14,36 +12,49 @@ use messages::message::Message;
 // An end with a higher last stamp makes no more calls, so that no call ever runs out of stamps.
 pub const WORN_ABOVE: u32 = 4_294_965_000;
 
-pub fn is_worn(last: u32) -> bool
-    ensures { result ≡ is_worn last }
-{
-    last > WORN_ABOVE
-}
-
-// A message to a node, which answers the frame with the stamp `answers`, or none for 0.
-#[derive(Clone, Copy)]
+// A message to a node.
+#[derive(Clone, Copy, PartialEq)]
 pub struct Outgoing {
     pub to: NodeNumber,
+    // the stamp of the frame that this one answers, 0 for none, as frames have it
     pub answers: u32,
     pub message: Message,
 }
 
-// Sends one frame with the next stamp, and answers that stamp.
-pub fn send<C: InOrder>(carrier: &mut C, own: NodeNumber, last: u32, outgoing: Outgoing) -> u32
-    ensures stamp { last + 1 < 4294967296 → result ≡ last + 1 }
-    ensures sent { last + 1 < 4294967296 → lawful_nodes own outgoing.to ≡ true → lawful_message outgoing.message ≡ true → Sent C.Carrier.puts own last (outgoing ∷ []) carrier.old carrier.new }
-{
-    let stamp = last.saturating_add(1);
-    let frame = Frame {
-        source: own,
-        destination: outgoing.to,
-        stamp,
-        answers: outgoing.answers,
-        message: outgoing.message,
-    };
-    let mut octets = [0; 64];
-    if let Ok(size) = write_frame(frame, &mut octets) {
-        InOrder::put(carrier, &octets[0..size]);
+// An end as it sends: its number, and the stamp that it sent last. Never copied, so that no stamp is taken twice.
+#[derive(Drop, PartialEq, Eq)]
+pub struct Sender {
+    pub own: NodeNumber,
+    pub last: u32,
+}
+
+impl Sender {
+    pub fn is_worn(&self) -> bool
+        ensures { result ≡ is_worn self.now.last }
+    {
+        self.last > WORN_ABOVE
     }
-    stamp
+
+    // Sends one frame with the next stamp, and answers that stamp. What may not go is not put, and takes a stamp too.
+    pub fn send<C: InOrder>(&mut self, carrier: &mut C, outgoing: Outgoing) -> u32
+        ensures stamp { HasStamps 1 self.old → result ≡ self.old.last + 1 }
+        ensures own { self.new.own ≡ self.old.own }
+        ensures last { self.new.last ≡ result }
+        ensures sent { HasStamps 1 self.old → may_go self.old.own outgoing ≡ true → Sent C.Carrier.puts self.old.own self.old.last (outgoing ∷ []) carrier.old carrier.new }
+        ensures unsent { may_go self.old.own outgoing ≡ false → carrier.new ≡ carrier.old }
+    {
+        self.last = self.last.saturating_add(1);
+        let frame = Frame {
+            source: self.own,
+            destination: outgoing.to,
+            stamp: self.last,
+            answers: outgoing.answers,
+            message: outgoing.message,
+        };
+        let mut octets = [0; 64];
+        if let Ok(size) = write_frame(frame, &mut octets) {
+            InOrder::put(carrier, &octets[0..size]);
+        }
+        self.last
+    }
 }

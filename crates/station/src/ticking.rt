@@ -1,79 +1,58 @@
 // One tick of a row.
-ghost use Rattle.std.specs.Prelude.{◌≡◌, ◌+◌, ◌<◌, true, length};
-ghost use Rattle.frames.specs.Format.{lawful_nodes};
+ghost use Rattle.std.specs.Prelude.{◌≡◌, ◌+◌, length};
 ghost use Rattle.station.specs.Sends.{Sent};
-ghost use Rattle.station.specs.Ticks.{due_sends, repeat_sends, repeat_ticked, row_sends, row_ticked};
+ghost use Rattle.station.specs.Ticks.{CanReach, due_sends, repeat_sends, repeat_ticked, row_sends, row_ticked};
 
 use crate::row::Row;
-use crate::sending::{Outgoing, send};
+use crate::sending::{Outgoing, Sender};
 use carrier::carrier::Carrier;
 use carrier::in_order::InOrder;
 use elements::node::NodeNumber;
 use messages::message::Message;
 
-// Sends the acknowledgement, if this is its tick, and answers the last stamp then.
-fn acknowledge<C: InOrder>(
-    carrier: &mut C,
-    own: NodeNumber,
-    peer: NodeNumber,
-    last: u32,
-    row: Row,
-) -> u32
-    ensures stamp { last + 1 < 4294967296 → lawful_nodes own peer ≡ true → result ≡ last + length (due_sends own peer row) }
-    ensures sent { last + 1 < 4294967296 → lawful_nodes own peer ≡ true → Sent C.Carrier.puts own last (due_sends own peer row) carrier.old carrier.new }
-{
-    match row.due_now() {
-        Some(answers) => {
-            let message = Message::ResetAcknowledge { entity: own };
+impl Row {
+    // Sends the acknowledgement, if this is its tick.
+    fn acknowledge<C: InOrder>(self, sender: &mut Sender, carrier: &mut C, peer: NodeNumber)
+        ensures own { sender.new.own ≡ sender.old.own }
+        ensures last { CanReach peer 1 sender.old → sender.new.last ≡ sender.old.last + length (due_sends sender.old.own peer self) }
+        ensures sent { CanReach peer 1 sender.old → Sent C.Carrier.puts sender.old.own sender.old.last (due_sends sender.old.own peer self) carrier.old carrier.new }
+    {
+        if let Some(answers) = self.due_now() {
             let outgoing = Outgoing {
                 to: peer,
                 answers,
-                message,
+                message: Message::ResetAcknowledge { entity: sender.own },
             };
-            send(carrier, own, last, outgoing)
+            sender.send(carrier, outgoing);
         }
-        None => last,
     }
-}
 
-// Sends the RESET again, if this is its tick; answers the row and the last stamp then.
-fn repeat<C: InOrder>(
-    carrier: &mut C,
-    own: NodeNumber,
-    peer: NodeNumber,
-    last: u32,
-    row: Row,
-) -> (Row, u32)
-    ensures row { last + 1 < 4294967296 → lawful_nodes own peer ≡ true → result.0 ≡ repeat_ticked last row }
-    ensures stamp { last + 1 < 4294967296 → lawful_nodes own peer ≡ true → result.1 ≡ last + length (repeat_sends own peer row) }
-    ensures sent { last + 1 < 4294967296 → lawful_nodes own peer ≡ true → Sent C.Carrier.puts own last (repeat_sends own peer row) carrier.old carrier.new }
-{
-    if !row.repeat_now() {
-        return (row.reset_ticked(), last);
+    // Sends the RESET again, if this is its tick; answers the row then.
+    fn repeat<C: InOrder>(self, sender: &mut Sender, carrier: &mut C, peer: NodeNumber) -> Row
+        ensures row { CanReach peer 1 sender.old → result ≡ repeat_ticked sender.old.last self }
+        ensures own { sender.new.own ≡ sender.old.own }
+        ensures last { CanReach peer 1 sender.old → sender.new.last ≡ sender.old.last + length (repeat_sends sender.old.own peer self) }
+        ensures sent { CanReach peer 1 sender.old → Sent C.Carrier.puts sender.old.own sender.old.last (repeat_sends sender.old.own peer self) carrier.old carrier.new }
+    {
+        if !self.repeat_now() {
+            return self.reset_ticked();
+        }
+        let outgoing = Outgoing {
+            to: peer,
+            answers: 0,
+            message: Message::Reset { entity: sender.own },
+        };
+        self.repeated(sender.send(carrier, outgoing))
     }
-    let message = Message::Reset { entity: own };
-    let outgoing = Outgoing {
-        to: peer,
-        answers: 0,
-        message,
-    };
-    let stamp = send(carrier, own, last, outgoing);
-    (row.repeated(stamp), stamp)
-}
 
-// One tick of the row toward a peer: the acknowledgement that is due goes before the RESET's repeat.
-// Answers the row and the last stamp then.
-pub fn tick_row<C: InOrder>(
-    carrier: &mut C,
-    own: NodeNumber,
-    peer: NodeNumber,
-    last: u32,
-    row: Row,
-) -> (Row, u32)
-    ensures row { last + 2 < 4294967296 → lawful_nodes own peer ≡ true → result.0 ≡ row_ticked own peer last row }
-    ensures stamp { last + 2 < 4294967296 → lawful_nodes own peer ≡ true → result.1 ≡ last + length (row_sends own peer row) }
-    ensures sent { last + 2 < 4294967296 → lawful_nodes own peer ≡ true → Sent C.Carrier.puts own last (row_sends own peer row) carrier.old carrier.new }
-{
-    let acknowledged = acknowledge(carrier, own, peer, last, row);
-    repeat(carrier, own, peer, acknowledged, row.due_ticked())
+    // One tick of the row toward a peer: the acknowledgement that is due goes before the RESET's repeat.
+    pub fn tick<C: InOrder>(self, sender: &mut Sender, carrier: &mut C, peer: NodeNumber) -> Row
+        ensures row { CanReach peer 2 sender.old → result ≡ row_ticked sender.old.own peer sender.old.last self }
+        ensures own { sender.new.own ≡ sender.old.own }
+        ensures last { CanReach peer 2 sender.old → sender.new.last ≡ sender.old.last + length (row_sends sender.old.own peer self) }
+        ensures sent { CanReach peer 2 sender.old → Sent C.Carrier.puts sender.old.own sender.old.last (row_sends sender.old.own peer self) carrier.old carrier.new }
+    {
+        self.acknowledge(sender, carrier, peer);
+        self.due_ticked().repeat(sender, carrier, peer)
+    }
 }
