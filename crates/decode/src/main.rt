@@ -8,6 +8,7 @@ use outcome::outcome_of;
 use std::io;
 use std::io::{BufRead, BufReader};
 use tally::Tally;
+use words::in_words::InWords;
 
 // The input is read as octets, since a line that is no text is a bad line too, and not the end.
 fn main(rt: HostRuntime) -> io::Result<()> {
@@ -20,7 +21,10 @@ fn main(rt: HostRuntime) -> io::Result<()> {
             continue;
         };
         tally.note(outcome);
-        println!(rt; "line {number}: {outcome}")?;
+        match outcome {
+            Ok(frame) => println!(rt; "line {number}: {}", InWords(frame))?,
+            Err(refusal) => println!(rt; "line {number}: {refusal}")?,
+        }
     }
     println!(rt; "{tally}")
 }
