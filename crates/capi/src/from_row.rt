@@ -63,10 +63,9 @@ fn code<T: Coded + Drop>(number: u64) -> Result<T, Fault>
 fn area(number: u64) -> Result<LocationArea, Fault>
     ensures { result ≡ area_from number }
 {
-    if number >= 1099511627776 {
+    let [0, 0, 0, a, b, c, d, e] = number.to_be_bytes() else {
         return Err(fault(FaultKind::Contents));
-    }
-    let [_, _, _, a, b, c, d, e] = number.to_be_bytes();
+    };
     Ok(LocationArea {
         octets: [a, b, c, d, e],
     })

@@ -46,7 +46,7 @@ impl Row {
             old_area,
             new_area,
             class,
-            ..,
+            ..
         ] = fields
         else {
             return None;

@@ -61,8 +61,11 @@ fn body_of(message: Message) -> Row
                 ..imsi_and(type_octet, imsi, 0)
             }
         }
-        Message::PagingFailure { imsi, cause } | Message::MobileStatus { imsi, cause } =>
-            imsi_and(type_octet, imsi, cause.octet()),
+        Message::PagingFailure { imsi, cause } | Message::MobileStatus { imsi, cause } => imsi_and(
+            type_octet,
+            imsi,
+            cause.octet(),
+        ),
         Message::LuRequest {
             imsi,
             update,
@@ -86,11 +89,17 @@ fn body_of(message: Message) -> Row
             ..Row::default()
         },
         Message::GprsDetachIndication { imsi, detach }
-        | Message::GprsDetachAcknowledge { imsi, detach } =>
-            imsi_and(type_octet, imsi, detach.octet()),
+        | Message::GprsDetachAcknowledge { imsi, detach } => imsi_and(
+            type_octet,
+            imsi,
+            detach.octet(),
+        ),
         Message::ImsiDetachIndication { imsi, detach }
-        | Message::ImsiDetachAcknowledge { imsi, detach } =>
-            imsi_and(type_octet, imsi, detach.octet()),
+        | Message::ImsiDetachAcknowledge { imsi, detach } => imsi_and(
+            type_octet,
+            imsi,
+            detach.octet(),
+        ),
     }
 }
 

@@ -17,9 +17,7 @@ fn digit(character: u8) -> Option<u8>
     ensures value { result ≡ digit_in character }
     ensures bound { IfSome result (λ d. d < 16) }
 {
-    char::from(character)
-        .to_digit(16)
-        .map(|digit| digit as u8)
+    char::from(character).to_digit(16).map(|digit| digit as u8)
 }
 
 // Why a character with no second one beside it is no octet.
