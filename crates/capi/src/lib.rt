@@ -41,7 +41,7 @@ mod from_row;
 mod row;
 mod to_row;
 
-// Answers: all was read, and there are too few fields. Numbers and no `Result`, since C calls for them.
+// Answers: all was read, and there are too few fields. Numbers and no `Result`, since C gets them.
 const READ: u64 = 0;
 
 const TOO_FEW_FIELDS: u64 = 256;

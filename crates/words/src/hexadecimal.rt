@@ -1,5 +1,5 @@
 // Lines of hexadecimal octets, as a person writes them.
-ghost use Rattle.std.specs.Prelude.{◌≡◌, ◌<◌, IfSome, Ok, Err, MatchResult};
+ghost use Rattle.std.specs.Prelude.{◌≡◌, ◌<◌, ◌≤◌, length, IfSome, Ok, Err, MatchResult};
 ghost use Rattle.words.specs.Hexadecimal.{is_blank, digit_in, lone_digit, octet_in, octets_in, octets_of};
 
 use crate::line::{BadLine, LineOctets};
@@ -63,7 +63,8 @@ pub fn octets_in_line(line: &[u8]) -> Result<LineOctets, BadLine>
 
 impl LineOctets {
     pub fn as_slice(&self) -> &[u8]
-        ensures { result.now ≡ octets_of self.now }
+        ensures value { result.now ≡ octets_of self.now }
+        ensures fits { length result.now ≤ 128 }
     {
         self.octets.as_slice()
     }
