@@ -1,5 +1,5 @@
 // A row of numbers with a name for each of them.
-ghost use Rattle.std.specs.Prelude.{◌≡◌, length};
+ghost use Rattle.std.specs.Prelude.{◌≡◌};
 ghost use Rattle.capi.specs.Rows.{fields_of, row_in_front};
 
 // How many fields a frame has.
