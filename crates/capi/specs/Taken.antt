@@ -1,5 +1,5 @@
 -- The frame that a row of numbers says, or the first fault in the order of the row.
-use Rattle.std.specs.Prelude.{ℕ, ◌/◌, ◌%◌, cond, List, [], ◌∷◌, Some, None, Ok, Option, Result, ◌==◌, nat_lt, slice_index}
+use Rattle.std.specs.Prelude.{◌≡◌, ◌≢◌, ℕ, ◌/◌, ◌%◌, cond, List, [], ◌∷◌, Some, None, Ok, Err, Option, Result, ◌==◌, nat_lt, slice_index}
 use Rattle.imsi.specs.declared.Imsi.{Imsi}
 use Rattle.elements.specs.declared.area.LocationArea.{LocationArea}
 use Rattle.elements.specs.declared.fault.Fault.{Fault}
@@ -11,6 +11,21 @@ use Rattle.elements.specs.Faults.{wrong, and_then, lawful_or}
 use Rattle.messages.specs.declared.message.Message.{Message}
 use Rattle.messages.specs.declared.message.Message.TheVariants.{Paging, PagingFailure, MobileStatus, LuRequest, LuAccept, LuReject, Reset, ResetAcknowledge, GprsDetachIndication, GprsDetachAcknowledge, ImsiDetachIndication, ImsiDetachAcknowledge}
 use Rattle.frames.specs.declared.frame.Frame.{Frame}
+
+-- a row has no octets: its faults are at place 0
+abbrev pub fault_of : FaultKind → Fault
+fault_of k = record { kind = k; place = 0 }
+
+-- what a conversion gives for a number, or this fault where it gives none
+abbrev pub Fitted : {X E : Type 0} → (ℕ → Result X E → Type 0) → FaultKind → ℕ → Result X Fault → Type 0
+Fitted {X} {E} gives k n (Ok x) = gives n (Ok x)
+Fitted {X} {E} gives k n (Err f) = (f ≡ fault_of k) × ((e : E) × gives n (Err e))
+
+-- the same of a number that is there where the flag is 1, and absent where it is 0
+abbrev pub FittedOption : {X E : Type 0} → (ℕ → Result X E → Type 0) → ℕ → ℕ → Result (Option X) Fault → Type 0
+FittedOption {X} {E} gives flag n (Ok None) = flag ≡ 0
+FittedOption {X} {E} gives flag n (Ok (Some x)) = (flag ≡ 1) × gives n (Ok x)
+FittedOption {X} {E} gives flag n (Err f) = (f ≡ fault_of kind.Contents) × (flag ≢ 0) × (flag ≡ 1 → (e : E) × gives n (Err e))
 
 -- a number below a limit, or this fault
 abbrev pub below : ℕ → FaultKind → ℕ → Result ℕ Fault

@@ -23,24 +23,25 @@
 // number is a fault's, 20 to 28, or 1 where there are fewer than fifteen fields.
 #![tactic(auto)]
 
-ghost use Rattle.std.specs.Prelude.{◌≡◌, ◌<◌, ◌≤◌, ◌++◌, length, take, drop};
+ghost use Rattle.std.specs.Prelude.{◌≡◌, ◌<◌, IfOk, take};
+ghost use Rattle.elements.specs.Faults.{and_then};
 ghost use Rattle.frames.specs.Format.{frame_in};
+ghost use Rattle.frames.specs.Writing.{frame_written};
+ghost use Rattle.capi.specs.Rows.{fields_of};
 ghost use Rattle.capi.specs.Taken.{frame_from};
-ghost use Rattle.capi.specs.Replies.{refusal_of, read_answer, read_fields, write_answer, write_buffer};
+ghost use Rattle.capi.specs.Replies.{refusal_of, buffer_left, read_answer, read_fields, write_answer, write_buffer};
 
-use crate::from_row::frame_from;
-use crate::to_row::row_of;
+use crate::row::{FIELDS, Row};
 use elements::fault::Fault;
+use frames::frame::Frame;
 use frames::reading::read_frame;
 use frames::writing::write_frame;
 
 mod from_row;
+mod row;
 mod to_row;
 
-// How many fields a frame has.
-const FIELDS: usize = 15;
-
-// Answers: all was read, and there are too few fields.
+// Answers: all was read, and there are too few fields. Numbers and no `Result`, since C gets them.
 const READ: u64 = 0;
 
 const TOO_FEW_FIELDS: u64 = 256;
@@ -49,16 +50,7 @@ const TOO_FEW_FIELDS: u64 = 256;
 fn refusal(fault: Fault) -> u64
     ensures { result ≡ refusal_of fault }
 {
-    let place = if fault.place < 255 { fault.place } else { 255 };
-    256 * fault.kind.number() as u64 + place as u64
-}
-
-// Puts the row into the first fifteen fields.
-fn put_row(fields: &mut [u64], row: [u64; 15])
-    requires { 15 ≤ length fields.old }
-    ensures { fields.new ≡ row ++ drop 15 fields.old }
-{
-    fields[0..FIELDS].copy_from_slice(&row);
+    256 * fault.kind.number() as u64 + fault.place.min(255) as u64
 }
 
 // Reads the frame that these octets are into the first fifteen fields, and answers 0; or refuses.
@@ -66,12 +58,12 @@ pub fn gs_read_frame(octets: &[u8], fields: &mut [u64]) -> u64
     ensures answer { result ≡ read_answer octets.now fields.old }
     ensures row { fields.new ≡ read_fields octets.now fields.old }
 {
-    if fields.len() < FIELDS {
+    let Some(front) = fields.first_chunk_mut::<FIELDS>() else {
         return TOO_FEW_FIELDS;
-    }
+    };
     match read_frame(octets) {
         Ok(frame) => {
-            put_row(fields, row_of(frame));
+            *front = Row::from(frame).fields();
             READ
         }
         Err(fault) => refusal(fault),
@@ -85,14 +77,17 @@ pub fn gs_write_frame(fields: &[u64], buffer: &mut [u8]) -> u64
     ensures octets { buffer.new ≡ write_buffer fields.now buffer.old }
     ensures back { result < 256 → frame_in (take result buffer.new) ≡ frame_from fields.now }
 {
-    if fields.len() < FIELDS {
-        return TOO_FEW_FIELDS;
+    match Row::in_front(fields) {
+        Some(row) => write_row(row, buffer).unwrap_or_else(refusal),
+        None => TOO_FEW_FIELDS,
     }
-    match frame_from(fields) {
-        Ok(frame) => match write_frame(frame, buffer) {
-            Ok(count) => count as u64,
-            Err(fault) => refusal(fault),
-        },
-        Err(fault) => refusal(fault),
-    }
+}
+
+fn write_row(row: Row, buffer: &mut [u8]) -> Result<u64, Fault>
+    ensures value { result ≡ and_then (frame_from (fields_of row)) (λ f. frame_written f buffer.old) }
+    ensures octets { buffer.new ≡ buffer_left (frame_from (fields_of row)) buffer.old }
+    ensures back { IfOk result (λ n. frame_in (take n buffer.new) ≡ frame_from (fields_of row)) }
+{
+    let count = write_frame(Frame::try_from(row)?, buffer)?;
+    Ok(count as u64)
 }

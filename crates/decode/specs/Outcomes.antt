@@ -5,24 +5,24 @@ use Rattle.frames.specs.declared.frame.Frame.{Frame}
 use Rattle.frames.specs.Format.{frame_in}
 use Rattle.words.specs.declared.line.BadLine.{BadLine}
 use Rattle.words.specs.Hexadecimal.{octets_in}
-use Rattle.decode.specs.declared.outcome.Outcome.{Outcome}
-use Rattle.decode.specs.declared.outcome.Outcome.TheVariants.{Read, Faulty, Bad}
+use Rattle.decode.specs.declared.outcome.Refusal.{Refusal}
+use Rattle.decode.specs.declared.outcome.Refusal.TheVariants as refusal
 
 -- the first character is #
 abbrev pub is_comment : List ℕ → Bool
 is_comment line = nat_lt 0 (length line) && slice_index line 0 == 35
 
-abbrev pub told : Result Frame Fault → Outcome
-told (Ok f) = Read f
-told (Err e) = Faulty e
+abbrev pub told : Result Frame Fault → Result Frame Refusal
+told (Ok f) = Ok f
+told (Err e) = Err (refusal.Fault e)
 
 -- no octets say nothing
-abbrev pub read_in : List ℕ → Option Outcome
+abbrev pub read_in : List ℕ → Option (Result Frame Refusal)
 read_in octets = cond (length octets == 0) None (Some (told (frame_in octets)))
 
-abbrev pub read_line : Result (List ℕ) BadLine → Option Outcome
+abbrev pub read_line : Result (List ℕ) BadLine → Option (Result Frame Refusal)
 read_line (Ok octets) = read_in octets
-read_line (Err bad) = Some (Bad bad)
+read_line (Err bad) = Some (Err (refusal.Line bad))
 
-abbrev pub outcome_in : List ℕ → Option Outcome
+abbrev pub outcome_in : List ℕ → Option (Result Frame Refusal)
 outcome_in line = cond (is_comment line) None (read_line (octets_in 128 line))

@@ -1,8 +1,9 @@
 -- How lines are counted.
-use Rattle.std.specs.Prelude.{ℕ, ◌+◌, ◌-◌, ◌^◌, min, List, replicate, slice_index, slice_set}
+use Rattle.std.specs.Prelude.{ℕ, ◌+◌, ◌-◌, ◌^◌, min, List, Ok, Err, Result, replicate, slice_index, slice_set}
 use Rattle.elements.specs.Faults.{fault_number}
-use Rattle.decode.specs.declared.outcome.Outcome.{Outcome}
-use Rattle.decode.specs.declared.outcome.Outcome.TheVariants.{Read, Faulty, Bad}
+use Rattle.frames.specs.declared.frame.Frame.{Frame}
+use Rattle.decode.specs.declared.outcome.Refusal.{Refusal}
+use Rattle.decode.specs.declared.outcome.Refusal.TheVariants as refusal
 use Rattle.decode.specs.declared.tally.Tally.{Tally}
 
 -- one more, up to the largest number that can be held
@@ -17,7 +18,7 @@ abbrev pub no_lines : Tally
 no_lines = record { frames = 0; faults = replicate 9 0; bad_lines = 0 }
 
 -- an outcome raises its own count and no other; the faults' counts begin with that of fault 20
-abbrev pub noted : Tally → Outcome → Tally
-noted t (Read f) = record { frames = one_more t.frames; faults = t.faults; bad_lines = t.bad_lines }
-noted t (Faulty e) = record { frames = t.frames; faults = one_more_at t.faults (fault_number e.kind - 20); bad_lines = t.bad_lines }
-noted t (Bad b) = record { frames = t.frames; faults = t.faults; bad_lines = one_more t.bad_lines }
+abbrev pub noted : Tally → Result Frame Refusal → Tally
+noted t (Ok f) = record { frames = one_more t.frames; faults = t.faults; bad_lines = t.bad_lines }
+noted t (Err (refusal.Fault e)) = record { frames = t.frames; faults = one_more_at t.faults (fault_number e.kind - 20); bad_lines = t.bad_lines }
+noted t (Err (refusal.Line b)) = record { frames = t.frames; faults = t.faults; bad_lines = one_more t.bad_lines }

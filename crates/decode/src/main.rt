@@ -8,19 +8,22 @@ use outcome::outcome_of;
 use std::io;
 use std::io::{BufRead, BufReader};
 use tally::Tally;
+use words::in_words::InWords;
 
 // The input is read as octets, since a line that is no text is a bad line too, and not the end.
 fn main(rt: HostRuntime) -> io::Result<()> {
     let mut tally = Tally::new();
-    let mut number: u64 = 0;
-    for line in BufReader::new(rt.alloc(), rt.stdin())?.split(rt.alloc(), b'\n') {
+    let lines = BufReader::new(rt.alloc(), rt.stdin())?.split(rt.alloc(), b'\n');
+    for (number, line) in (1..u64::MAX).zip(lines) {
         let line = line?;
-        number = number.saturating_add(1);
         let Some(outcome) = outcome_of(&line) else {
             continue;
         };
         tally.note(outcome);
-        println!(rt; "line {number}: {outcome}")?;
+        match outcome {
+            Ok(frame) => println!(rt; "line {number}: {}", InWords(frame))?,
+            Err(refusal) => println!(rt; "line {number}: {refusal}")?,
+        }
     }
     println!(rt; "{tally}")
 }

@@ -1,6 +1,9 @@
 // What a line says.
 ghost use Rattle.std.specs.Prelude.{◌≡◌};
-ghost use Rattle.decode.specs.Outcomes.{is_comment, read_in, outcome_in};
+ghost use Rattle.std.specs.Result.{result_transpose};
+ghost use Rattle.words.specs.Hexadecimal.{octets_in};
+ghost use Rattle.decode.specs.declared.outcome.Refusal.TheVariants as refusal;
+ghost use Rattle.decode.specs.Outcomes.{is_comment, read_line, outcome_in};
 
 use elements::fault::Fault;
 use frames::frame::Frame;
@@ -10,11 +13,36 @@ use words::hexadecimal::octets_in_line;
 use words::in_words::InWords;
 use words::line::BadLine;
 
+// Why a line gives no frame: its octets have a fault, or it does not write octets.
 #[derive(Clone, Copy)]
-pub enum Outcome {
-    Read(Frame),
-    Faulty(Fault),
-    Bad(BadLine),
+pub enum Refusal {
+    Fault(Fault),
+    Line(BadLine),
+}
+
+impl From<Fault> for Refusal {
+    ghost from_gives = { λ fault r. r ≡ refusal.Fault fault };
+
+    fn from(fault: Fault) -> Refusal {
+        Refusal::Fault(fault)
+    }
+}
+
+impl From<BadLine> for Refusal {
+    ghost from_gives = { λ bad r. r ≡ refusal.Line bad };
+
+    fn from(bad: BadLine) -> Refusal {
+        Refusal::Line(bad)
+    }
+}
+
+impl fmt::Display for Refusal {
+    fn fmt<W: fmt::Write>(&self, f: &mut fmt::Formatter<W>) -> fmt::Result {
+        match self {
+            Refusal::Fault(fault) => write!(f, "{}", InWords(*fault)),
+            Refusal::Line(bad) => write!(f, "bad line: {bad}"),
+        }
+    }
 }
 
 // A line that begins with # is a comment.
@@ -25,36 +53,22 @@ fn is_comment(line: &[u8]) -> bool
 }
 
 // What the line says, unless it is a comment or has nothing but blanks.
-pub fn outcome_of(line: &[u8]) -> Option<Outcome>
+pub fn outcome_of(line: &[u8]) -> Option<Result<Frame, Refusal>>
     ensures { result ≡ outcome_in line.now }
 {
     if is_comment(line) {
         return None;
     }
-    match octets_in_line(line) {
-        Ok(octets) => read(octets.as_slice()),
-        Err(bad) => Some(Outcome::Bad(bad)),
-    }
+    frame_in_line(line).transpose()
 }
 
-fn read(octets: &[u8]) -> Option<Outcome>
-    ensures { result ≡ read_in octets.now }
+fn frame_in_line(line: &[u8]) -> Result<Option<Frame>, Refusal>
+    ensures { result_transpose result ≡ read_line (octets_in 128 line.now) }
 {
-    if octets.is_empty() {
-        return None;
+    let octets = octets_in_line(line)?;
+    if octets.as_slice().is_empty() {
+        return Ok(None);
     }
-    match read_frame(octets) {
-        Ok(frame) => Some(Outcome::Read(frame)),
-        Err(fault) => Some(Outcome::Faulty(fault)),
-    }
-}
-
-impl fmt::Display for Outcome {
-    fn fmt<W: fmt::Write>(&self, f: &mut fmt::Formatter<W>) -> fmt::Result {
-        match self {
-            Outcome::Read(frame) => write!(f, "{}", InWords(*frame)),
-            Outcome::Faulty(fault) => write!(f, "{}", InWords(*fault)),
-            Outcome::Bad(bad) => write!(f, "bad line: {bad}"),
-        }
-    }
+    let frame = read_frame(octets.as_slice())?;
+    Ok(Some(frame))
 }

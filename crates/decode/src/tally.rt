@@ -1,18 +1,19 @@
 // How many lines there were of each outcome.
 ghost use Rattle.std.specs.Prelude.{◌≡◌};
-ghost use Rattle.decode.specs.Tallies.{no_lines, noted};
+ghost use Rattle.decode.specs.Tallies.{one_more, no_lines, noted};
 
-use crate::outcome::Outcome;
+use crate::outcome::Refusal;
+use frames::frame::Frame;
 use std::fmt;
 
 // The number of the first fault.
 const FIRST: u8 = 20;
 
-// A count that is full stays as it is.
-#[derive(Clone, Copy)]
+#[derive(Clone, Copy, Default)]
 pub struct Tally {
     pub frames: u64,
-    // by number from 20 to 28; the last of them, a buffer too short to write into, is never met in reading
+    // By number from 20 to 28, in the order in which they are said: a map by kind would have to be sorted for that.
+    // The last of them, a buffer too short to write into, is never met in reading.
     pub faults: [u64; 9],
     pub bad_lines: u64,
 }
@@ -21,25 +22,28 @@ impl Tally {
     pub fn new() -> Tally
         ensures { result ≡ no_lines }
     {
-        Tally {
-            frames: 0,
-            faults: [0; 9],
-            bad_lines: 0,
-        }
+        Tally::default()
     }
 
-    pub fn note(&mut self, outcome: Outcome)
+    pub fn note(&mut self, outcome: Result<Frame, Refusal>)
         ensures { self.new ≡ noted self.old outcome }
     {
         match outcome {
-            Outcome::Read(_) => self.frames = self.frames.saturating_add(1),
-            Outcome::Faulty(fault) => {
-                let k = (fault.kind.number() - FIRST) as usize;
-                self.faults[k] = self.faults[k].saturating_add(1);
+            Ok(_) => raise(&mut self.frames),
+            Err(Refusal::Fault(fault)) => {
+                let place = (fault.kind.number() - FIRST) as usize;
+                raise(&mut self.faults[place]);
             }
-            Outcome::Bad(_) => self.bad_lines = self.bad_lines.saturating_add(1),
+            Err(Refusal::Line(_)) => raise(&mut self.bad_lines),
         }
     }
+}
+
+// A count that is full stays as it is.
+fn raise(count: &mut u64)
+    ensures { count.new ≡ one_more count.old }
+{
+    *count = count.saturating_add(1);
 }
 
 impl fmt::Display for Tally {

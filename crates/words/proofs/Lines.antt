@@ -1,6 +1,6 @@
 -- Reading a line from its front: what was read so far, and what the rest gives.
-use Rattle.std.proofs.Common.{◌≡◌, ℕ, ◌+◌, ◌-◌, ◌<◌, ◌≤◌, true, false, cond, eqb, List, [], ◌∷◌, ◌++◌, length, get_or, take, drop, set, Some, None, Ok, Err, Option, Result, sym, refl, ap, ◌∙◌, append_assoc, arith, ne_eqb}
-use Rattle.std.proofs.lemmas.List.{take_all, take_more_set}
+use Rattle.std.proofs.Common.{◌≡◌, ℕ, ◌-◌, ◌<◌, ◌≤◌, true, false, cond, eqb, List, [], ◌∷◌, ◌++◌, length, get_or, take, drop, Some, None, Ok, Err, Option, Result, sym, refl, ap, ◌∙◌, append_assoc, arith, ne_eqb, length-append}
+use Rattle.std.proofs.lemmas.List.{take_all}
 use Rattle.words.specs.declared.line.BadLine.{BadLine}
 use Rattle.words.specs.declared.line.BadLine.TheVariants.{TooLong}
 use Rattle.words.specs.Hexadecimal.{is_blank, digit_in, joined, lone_digit, octet_in, followed_by, octets_in}
@@ -46,13 +46,13 @@ pub shift : (xs : List ℕ) (o : ℕ) (r : Result (List ℕ) BadLine) → behind
 shift xs o (Err e) = refl
 shift xs o (Ok ys) = ap Ok (sym (append_assoc xs (o ∷ []) ys))
 
-pub read_more : (rest octets : List ℕ) (count o : ℕ) → count < 128 → length octets ≡ 128 → is_blank (get_or rest 0 0) ≡ false → octet_in (get_or rest 0 0) (get_or rest 1 0) ≡ Ok o → behind (take count octets) (octets_in (128 - count) rest) ≡ behind (take (count + 1) (set octets count o)) (octets_in (128 - (count + 1)) (take (length rest - 2) (drop 2 rest)))
-read_more rest octets count o small full n e =
-    let room : 0 < 128 - count = omega arith in
-    let inside : count < length octets = omega arith in
-    let less : 128 - count - 1 ≡ 128 - (count + 1) = omega arith in
+-- the octet in front goes behind those that were read, where there is room for it
+pub read_more : (rest xs ys : List ℕ) (o : ℕ) → length xs < 128 → ys ≡ xs ++ o ∷ [] → is_blank (get_or rest 0 0) ≡ false → octet_in (get_or rest 0 0) (get_or rest 1 0) ≡ Ok o → behind xs (octets_in (128 - length xs) rest) ≡ behind ys (octets_in (128 - length ys) (take (length rest - 2) (drop 2 rest)))
+read_more rest xs ys o small grown n e =
+    let room : 0 < 128 - length xs = omega arith in
+    let less : 128 - length xs - 1 ≡ 128 - length (xs ++ o ∷ []) = omega (arith, length-append xs (o ∷ [])) in
     let tail = take (length rest - 2) (drop 2 rest) in
-    ap (behind (take count octets)) (past_octet rest (128 - count) o room n e)
-    ∙ shift (take count octets) o (octets_in (128 - count - 1) tail)
-    ∙ ap (λ k. behind (take count octets ++ o ∷ []) (octets_in k tail)) less
-    ∙ ap (λ xs. behind xs (octets_in (128 - (count + 1)) tail)) (sym (take_more_set octets count o inside))
+    ap (behind xs) (past_octet rest (128 - length xs) o room n e)
+    ∙ shift xs o (octets_in (128 - length xs - 1) tail)
+    ∙ ap (λ k. behind (xs ++ o ∷ []) (octets_in k tail)) less
+    ∙ ap (λ zs. behind zs (octets_in (128 - length zs) tail)) (sym grown)

@@ -33,53 +33,60 @@ impl fmt::Display for InWords<LocationArea> {
     }
 }
 
-impl fmt::Display for InWords<Cause> {
+// What a code means. Its octet stands in front of that in words.
+pub(crate) trait Meaning: Coded + Copy {
+    fn meaning(self) -> &'static str;
+}
+
+impl<T: Meaning> fmt::Display for InWords<T> {
     fn fmt<W: fmt::Write>(&self, f: &mut fmt::Formatter<W>) -> fmt::Result {
-        let meaning = match self.0 {
+        let InWords(code) = *self;
+        write!(f, "{} ({})", code.octet(), code.meaning())
+    }
+}
+
+impl Meaning for Cause {
+    fn meaning(self) -> &'static str {
+        match self {
             Cause::NotAttached => "not attached",
             Cause::MovedToAnotherVlr => "moved to another VLR",
-        };
-        write!(f, "{} ({meaning})", self.0.octet())
+        }
     }
 }
 
-impl fmt::Display for InWords<UpdateType> {
-    fn fmt<W: fmt::Write>(&self, f: &mut fmt::Formatter<W>) -> fmt::Result {
-        let meaning = match self.0 {
+impl Meaning for UpdateType {
+    fn meaning(self) -> &'static str {
+        match self {
             UpdateType::ImsiAttach => "IMSI attach",
             UpdateType::Normal => "normal",
-        };
-        write!(f, "{} ({meaning})", self.0.octet())
+        }
     }
 }
 
-impl fmt::Display for InWords<Class> {
-    fn fmt<W: fmt::Write>(&self, f: &mut fmt::Formatter<W>) -> fmt::Result {
-        let meaning = match self.0 {
+impl Meaning for Class {
+    fn meaning(self) -> &'static str {
+        match self {
             Class::A => "A",
             Class::B => "B",
-        };
-        write!(f, "{} ({meaning})", self.0.octet())
+        }
     }
 }
 
-impl fmt::Display for InWords<GprsDetachType> {
-    fn fmt<W: fmt::Write>(&self, f: &mut fmt::Formatter<W>) -> fmt::Result {
-        let meaning = match self.0 {
+impl Meaning for GprsDetachType {
+    fn meaning(self) -> &'static str {
+        match self {
             GprsDetachType::ByNetwork => "by the network",
             GprsDetachType::ByMobile => "by the mobile",
-        };
-        write!(f, "{} ({meaning})", self.0.octet())
+        }
     }
 }
 
-impl fmt::Display for InWords<ImsiDetachType> {
-    fn fmt<W: fmt::Write>(&self, f: &mut fmt::Formatter<W>) -> fmt::Result {
-        let meaning = match self.0 {
+impl Meaning for ImsiDetachType {
+    fn meaning(self) -> &'static str {
+        match self {
             ImsiDetachType::Unacknowledged => "unacknowledged",
             ImsiDetachType::Acknowledged => "acknowledged",
-        };
-        write!(f, "{} ({meaning})", self.0.octet())
+        }
     }
 }
 
@@ -92,30 +99,20 @@ impl fmt::Display for InWords<RejectCause> {
 
 // A mobile's temporary identity, as the four octets that carry it.
 #[derive(Clone, Copy)]
-pub struct Tmsi {
-    pub number: Option<u32>,
-}
+pub struct Tmsi(pub u32);
 
 impl fmt::Display for Tmsi {
     fn fmt<W: fmt::Write>(&self, f: &mut fmt::Formatter<W>) -> fmt::Result {
-        match self.number {
-            Some(number) => write!(f, "{number:08X}"),
-            None => write!(f, "absent"),
-        }
+        write!(f, "{:08X}", self.0)
     }
 }
 
-// The channel that a mobile needs.
-#[derive(Clone, Copy)]
-pub struct Channel {
-    pub number: Option<u8>,
-}
-
-impl fmt::Display for Channel {
+// An element that a message may lack, as the TMSI and the channel that a mobile needs.
+impl<T: fmt::Display> fmt::Display for InWords<Option<T>> {
     fn fmt<W: fmt::Write>(&self, f: &mut fmt::Formatter<W>) -> fmt::Result {
-        match self.number {
-            Some(number) => write!(f, "{number}"),
-            None => write!(f, "absent"),
+        match &self.0 {
+            Some(element) => write!(f, "{element}"),
+            None => f.write_str("absent"),
         }
     }
 }

@@ -18,29 +18,26 @@ impl fmt::Display for InWords<Fault> {
 
 impl fmt::Display for InWords<Layer> {
     fn fmt<W: fmt::Write>(&self, f: &mut fmt::Formatter<W>) -> fmt::Result {
-        match self.0 {
-            Layer::Frame => write!(f, "frame"),
-            Layer::Message => write!(f, "message"),
-        }
+        f.write_str(match self.0 {
+            Layer::Frame => "frame",
+            Layer::Message => "message",
+        })
     }
 }
 
 // The reason: which rule is broken.
 impl fmt::Display for InWords<FaultKind> {
     fn fmt<W: fmt::Write>(&self, f: &mut fmt::Formatter<W>) -> fmt::Result {
-        match self.0 {
-            FaultKind::FrameSize => write!(f, "not 11 to 64 octets"),
-            FaultKind::Nodes => write!(f, "the nodes are not two different numbers from 1 to 254"),
-            FaultKind::Stamp => write!(f, "the stamp is 0"),
-            FaultKind::MessageType => write!(f, "no message has this type"),
-            FaultKind::Identifier => write!(f, "not the element that must come next"),
-            FaultKind::Length => write!(
-                f,
-                "a length that the element or the end of the octets forbids"
-            ),
-            FaultKind::Contents => write!(f, "contents that the element forbids"),
-            FaultKind::Trailing => write!(f, "octets after the last element"),
-            FaultKind::Buffer => write!(f, "a buffer shorter than the longest frame"),
-        }
+        f.write_str(match self.0 {
+            FaultKind::FrameSize => "not 11 to 64 octets",
+            FaultKind::Nodes => "the nodes are not two different numbers from 1 to 254",
+            FaultKind::Stamp => "the stamp is 0",
+            FaultKind::MessageType => "no message has this type",
+            FaultKind::Identifier => "not the element that must come next",
+            FaultKind::Length => "a length that the element or the end of the octets forbids",
+            FaultKind::Contents => "contents that the element forbids",
+            FaultKind::Trailing => "octets after the last element",
+            FaultKind::Buffer => "a buffer shorter than the longest frame",
+        })
     }
 }

@@ -1,8 +1,9 @@
 // Lines of hexadecimal octets, as a person writes them.
-ghost use Rattle.std.specs.Prelude.{◌≡◌, ◌<◌, IfSome, Ok, Err, MatchResult};
+ghost use Rattle.std.specs.Prelude.{◌≡◌, ◌<◌, ◌≤◌, length, IfSome, Ok, Err, MatchResult};
 ghost use Rattle.words.specs.Hexadecimal.{is_blank, digit_in, lone_digit, octet_in, octets_in, octets_of};
 
-use crate::line::{BadLine, LONGEST, LineOctets};
+use crate::line::{BadLine, LineOctets};
+use arrayvec::ArrayVec;
 use std::fmt;
 
 // A space, a tab, or the carriage return with which some systems end a line.
@@ -16,12 +17,7 @@ fn digit(character: u8) -> Option<u8>
     ensures value { result ≡ digit_in character }
     ensures bound { IfSome result (λ d. d < 16) }
 {
-    match character {
-        b'0'..=b'9' => Some(character - b'0'),
-        b'A'..=b'F' => Some(character - b'A' + 10),
-        b'a'..=b'f' => Some(character - b'a' + 10),
-        _ => None,
-    }
+    char::from(character).to_digit(16).map(|digit| digit as u8)
 }
 
 // Why a character with no second one beside it is no octet.
@@ -41,31 +37,24 @@ fn octet(high: u8, low: u8) -> Result<u8, BadLine>
     if is_blank(low) {
         return Err(lone_digit(high));
     }
-    match (digit(high), digit(low)) {
-        (Some(h), Some(l)) => Ok(16 * h + l),
-        _ => Err(BadLine::NotHexadecimal),
-    }
+    let (high, low) = digit(high).zip(digit(low)).ok_or(BadLine::NotHexadecimal)?;
+    Ok(16 * high + low)
 }
 
 // The octets of a line, in either case of letters. Blanks may stand before, between and after octets.
 pub fn octets_in_line(line: &[u8]) -> Result<LineOctets, BadLine>
     ensures { MatchResult result (λ v. octets_in 128 line.now ≡ Ok (octets_of v)) (λ e. octets_in 128 line.now ≡ Err e) }
 {
-    let mut octets = [0u8; LONGEST];
-    let mut count = 0;
+    let mut octets = ArrayVec::new();
     let mut rest = line;
     loop {
         match rest {
-            [] => return Ok(LineOctets { octets, count }),
+            [] => return Ok(LineOctets { octets }),
             [first, tail @ ..] if is_blank(*first) => rest = tail,
             [only] => return Err(lone_digit(*only)),
             [high, low, tail @ ..] => {
                 let octet = octet(*high, *low)?;
-                if count == LONGEST {
-                    return Err(BadLine::TooLong);
-                }
-                octets[count] = octet;
-                count += 1;
+                octets.try_push(octet).map_err(|_| BadLine::TooLong)?;
                 rest = tail;
             }
         }
@@ -74,9 +63,10 @@ pub fn octets_in_line(line: &[u8]) -> Result<LineOctets, BadLine>
 
 impl LineOctets {
     pub fn as_slice(&self) -> &[u8]
-        ensures { result.now ≡ octets_of self.now }
+        ensures value { result.now ≡ octets_of self.now }
+        ensures fits { length result.now ≤ 128 }
     {
-        &self.octets[0..self.count]
+        self.octets.as_slice()
     }
 }
 

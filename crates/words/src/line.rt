@@ -1,21 +1,19 @@
 // What a line of hexadecimal octets holds, or why it holds none.
-ghost use Rattle.std.specs.Prelude.{◌≤◌};
-
+use arrayvec::ArrayVec;
+use std::error::Error;
 use std::fmt;
 
 // The most octets of a line: twice the longest frame, so that a frame that is too long is still read,
 // and answered as a frame with a fault, while a line needs no more than a fixed room.
 pub const LONGEST: usize = 128;
 
-// The octets of one line, the first `count` of `octets`.
-#[derive(Clone, Copy)]
+// The octets of one line.
+#[derive(Drop)]
 pub struct LineOctets {
-    pub(crate) octets: [u8; 128],
-    pub(crate) count: usize,
-    ghost inside: { count ≤ 128 },
+    pub(crate) octets: ArrayVec<u8, LONGEST>,
 }
 
-#[derive(Clone, Copy)]
+#[derive(Clone, Copy, Debug, PartialEq, Eq)]
 pub enum BadLine {
     // a character that is neither a hexadecimal digit nor a blank
     NotHexadecimal,
@@ -27,13 +25,12 @@ pub enum BadLine {
 
 impl fmt::Display for BadLine {
     fn fmt<W: fmt::Write>(&self, f: &mut fmt::Formatter<W>) -> fmt::Result {
-        match self {
-            BadLine::NotHexadecimal => write!(f, "not hexadecimal"),
-            BadLine::OddDigits => write!(
-                f,
-                "a digit stands alone: an octet is two digits side by side"
-            ),
-            BadLine::TooLong => write!(f, "more than 128 octets"),
-        }
+        f.write_str(match self {
+            BadLine::NotHexadecimal => "not hexadecimal",
+            BadLine::OddDigits => "a digit stands alone: an octet is two digits side by side",
+            BadLine::TooLong => "more than 128 octets",
+        })
     }
 }
+
+impl Error for BadLine {}

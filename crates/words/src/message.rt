@@ -1,5 +1,5 @@
 // Messages in words: the message's name, then each element by its name.
-use crate::element::{Channel, Tmsi};
+use crate::element::Tmsi;
 use crate::in_words::InWords;
 use imsi::Imsi;
 use messages::message::Message;
@@ -11,20 +11,20 @@ struct Name(Message);
 
 impl fmt::Display for Name {
     fn fmt<W: fmt::Write>(&self, f: &mut fmt::Formatter<W>) -> fmt::Result {
-        match self.0 {
-            Message::Paging { .. } => write!(f, "PAGING"),
-            Message::PagingFailure { .. } => write!(f, "PAGING_FAILURE"),
-            Message::MobileStatus { .. } => write!(f, "MOBILE_STATUS"),
-            Message::LuRequest { .. } => write!(f, "LU Request"),
-            Message::LuAccept { .. } => write!(f, "LU Accept"),
-            Message::LuReject { .. } => write!(f, "LU Reject"),
-            Message::Reset { .. } => write!(f, "RESET"),
-            Message::ResetAcknowledge { .. } => write!(f, "RESET_ACKNOWLEDGE"),
-            Message::GprsDetachIndication { .. } => write!(f, "GPRS_DETACH Indication"),
-            Message::GprsDetachAcknowledge { .. } => write!(f, "GPRS_DETACH Acknowledge"),
-            Message::ImsiDetachIndication { .. } => write!(f, "IMSI_DETACH Indication"),
-            Message::ImsiDetachAcknowledge { .. } => write!(f, "IMSI_DETACH Acknowledge"),
-        }
+        f.write_str(match self.0 {
+            Message::Paging { .. } => "PAGING",
+            Message::PagingFailure { .. } => "PAGING_FAILURE",
+            Message::MobileStatus { .. } => "MOBILE_STATUS",
+            Message::LuRequest { .. } => "LU Request",
+            Message::LuAccept { .. } => "LU Accept",
+            Message::LuReject { .. } => "LU Reject",
+            Message::Reset { .. } => "RESET",
+            Message::ResetAcknowledge { .. } => "RESET_ACKNOWLEDGE",
+            Message::GprsDetachIndication { .. } => "GPRS_DETACH Indication",
+            Message::GprsDetachAcknowledge { .. } => "GPRS_DETACH Acknowledge",
+            Message::ImsiDetachIndication { .. } => "IMSI_DETACH Indication",
+            Message::ImsiDetachAcknowledge { .. } => "IMSI_DETACH Acknowledge",
+        })
     }
 }
 
@@ -36,7 +36,10 @@ impl fmt::Display for InWords<Message> {
                 imsi,
                 tmsi,
                 channel,
-            } => paging(f, imsi, tmsi, channel),
+            } => {
+                imsi_and(f, imsi, "TMSI", InWords(tmsi.map(Tmsi)))?;
+                write!(f, ", channel {}", InWords(channel))
+            }
             Message::PagingFailure { imsi, cause } | Message::MobileStatus { imsi, cause } =>
                 imsi_and(f, imsi, "cause", InWords(cause)),
             Message::LuRequest {
@@ -68,18 +71,6 @@ impl fmt::Display for InWords<Message> {
             }
         }
     }
-}
-
-fn paging<W: fmt::Write>(
-    f: &mut fmt::Formatter<W>,
-    imsi: Imsi,
-    tmsi: Option<u32>,
-    channel: Option<u8>,
-) -> fmt::Result {
-    let tmsi = Tmsi { number: tmsi };
-    let channel = Channel { number: channel };
-    imsi_and(f, imsi, "TMSI", tmsi)?;
-    write!(f, ", channel {channel}")
 }
 
 // An IMSI and one more element, which nearly every message begins with.

@@ -1,21 +1,22 @@
-use Rattle.std.proofs.Common.{◌-◌, take, sym, ap, ◌∙◌, arith, length-set}
+use Rattle.std.proofs.Common.{◌≡◌, ◌-◌, ◌<◌, ◌++◌, [], ◌∷◌, length, sym, ap, ◌∙◌, arith, rules, length-append}
 use Rattle.words.proofs.Lines.{behind, past_blank, read_more}
 use Rattle.words.proofs.hexadecimal.octets_in_line.Goals as goal
 
 pub loop-rest-preserved-then-is_blank : goal.loop-rest-preserved-then-is_blank
-loop-rest-preserved-then-is_blank c = (
-  c.loop-rest.invariant.0
-      ∙ ap (behind (take c.loop-rest.count c.loop-rest.octets))
-      (past_blank c.loop-rest.rest.now (128 - c.loop-rest.count) c.if-is_blank.ensures),
-  c.loop-rest.invariant.1,
-  c.loop-rest.invariant.2,
-)
+loop-rest-preserved-then-is_blank c =
+    let loop = c.loop-rest in
+    record {
+      read = loop.invariant.read ∙ ap (behind loop.octets.items) (past_blank loop.rest.now (128 - length loop.octets.items) c.if-is_blank.ensures);
+      room = loop.invariant.room;
+    }
 
 pub loop-rest-preserved : goal.loop-rest-preserved
-loop-rest-preserved c = (
-  c.loop-rest.invariant.0
-      ∙ read_more c.loop-rest.rest.now c.loop-rest.octets c.loop-rest.count c.in_ok-octet-in-len2-up.octet
-      (omega arith) c.loop-rest.invariant.2 (sym c.if-is_blank.ensures) (sym c.in_ok-octet-in-len2-up.ensures),
-  omega arith,
-  length-set _ _ _ ∙ c.loop-rest.invariant.2,
-)
+loop-rest-preserved c =
+    let loop = c.loop-rest in
+    let o = c.in_ok-octet-in-len2-up in
+    let grown : c.try_push.new.self.items ≡ loop.octets.items ++ o.octet ∷ [] = search rules in
+    let small : length loop.octets.items < 128 = search rules in
+    record {
+      read = loop.invariant.read ∙ read_more loop.rest.now loop.octets.items c.try_push.new.self.items o.octet small grown (sym c.if-is_blank.ensures) (sym o.ensures);
+      room = rw grown (omega (arith, length-append loop.octets.items (o.octet ∷ [])));
+    }
