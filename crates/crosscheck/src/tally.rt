@@ -16,19 +16,10 @@ const SHOWN: u64 = 20;
 const ENOUGH: u64 = 500;
 
 // How many strings were read as one form, and how many of them both readers accepted.
-#[derive(Clone, Copy)]
+#[derive(Clone, Copy, Default)]
 struct Strings {
     read: u64,
     accepted: u64,
-}
-
-impl Strings {
-    fn new() -> Strings {
-        Strings {
-            read: 0,
-            accepted: 0,
-        }
-    }
 }
 
 #[derive(Drop)]
@@ -44,8 +35,8 @@ pub(crate) struct Tally {
 impl Tally {
     pub(crate) fn new() -> Tally {
         Tally {
-            messages: Strings::new(),
-            frames: Strings::new(),
+            messages: Strings::default(),
+            frames: Strings::default(),
             accepted_types: Counts {
                 rows: TYPES.map(|message| (message, 0)),
             },

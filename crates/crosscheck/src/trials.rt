@@ -35,35 +35,42 @@ impl Trials<'_> {
         Ok(())
     }
 
+    // The octet at a place replaced by each of these.
+    fn replaced_at(
+        &mut self,
+        form: Form,
+        octets: &[u8],
+        place: usize,
+        others: &[u8],
+    ) -> anyhow::Result<()> {
+        let mut changed = Vec::from_slice(self.rt.alloc(), octets)?;
+        for other in others {
+            put(&mut changed, place, *other);
+            self.compare(form, changed.as_slice())?;
+        }
+        Ok(())
+    }
+
     // Each octet replaced by some others: its neighbours, one half turned over, and any.
     fn replaced(&mut self, form: Form, octets: &[u8]) -> anyhow::Result<()> {
-        let mut changed = Vec::from_slice(self.rt.alloc(), octets)?;
         for (place, octet) in octets.iter().enumerate() {
-            let other = self.source.octet();
-            for value in [
+            let others = [
                 octet.wrapping_add(1),
                 octet.wrapping_sub(1),
                 *octet ^ 0x0F,
                 *octet ^ 0xF0,
-                other,
-            ] {
-                put(&mut changed, place, value);
-                self.compare(form, changed.as_slice())?;
-            }
-            put(&mut changed, place, *octet);
+                self.source.octet(),
+            ];
+            self.replaced_at(form, octets, place, &others)?;
         }
         Ok(())
     }
 
     // Each octet replaced by every value that it can have.
     fn replaced_by_all(&mut self, form: Form, octets: &[u8]) -> anyhow::Result<()> {
-        let mut changed = Vec::from_slice(self.rt.alloc(), octets)?;
-        for (place, octet) in octets.iter().enumerate() {
-            for value in 0..=255 {
-                put(&mut changed, place, value);
-                self.compare(form, changed.as_slice())?;
-            }
-            put(&mut changed, place, *octet);
+        let values: Vec<u8> = (0..=255).collect(self.rt.alloc())?;
+        for place in 0..octets.len() {
+            self.replaced_at(form, octets, place, values.as_slice())?;
         }
         Ok(())
     }
