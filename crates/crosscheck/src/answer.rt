@@ -1,74 +1,63 @@
 // What a reader found, in plain numbers, so that the answers of two readers can be held against each other.
+use arrayvec::ArrayVec;
 use std::fmt;
 
-// No message has more elements than this.
-const MOST_ELEMENTS: usize = 5;
+// No message has more than five elements. There is room for one more, so that one too many is seen.
+const ROOM: usize = 6;
 
 // Octets are read as a message alone, or as a frame with a message in it.
-#[derive(Clone, Copy, PartialEq)]
+#[derive(Clone, Copy, Debug, PartialEq, Eq)]
 pub(crate) enum Form {
     Message,
     Frame,
 }
 
 // The part of the format that a fault belongs to.
-#[derive(Clone, Copy, PartialEq)]
+#[derive(Clone, Copy, Debug, PartialEq, Eq)]
 pub(crate) enum Part {
     Frame,
     Message,
 }
 
-// Why octets were refused, and at which of them.
-#[derive(Clone, Copy, PartialEq)]
+// Why octets were refused, and at which of them. The number may be that of no rule that this program knows.
+#[derive(Clone, Copy, Debug, PartialEq, Eq)]
 pub(crate) struct Refusal {
     pub(crate) part: Part,
     pub(crate) number: u8,
     pub(crate) place: usize,
 }
 
-// An element: its identifier and its contents as a number. Only an IMSI has a count of digits, elsewhere it is 0.
-#[derive(Clone, Copy, PartialEq)]
+// An element: its identifier and its contents as a number. Only an IMSI has a count of digits.
+#[derive(Clone, Copy, Debug, Default, PartialEq, Eq)]
 pub(crate) struct Found {
     pub(crate) identifier: u8,
-    pub(crate) digits: u8,
+    pub(crate) digits: Option<u8>,
     pub(crate) value: u64,
 }
 
-// No element has the identifier 0.
-const NOTHING: Found = Found {
-    identifier: 0,
-    digits: 0,
-    value: 0,
-};
-
 // A message: its type and its elements in their order.
-#[derive(Clone, Copy, PartialEq)]
+#[derive(Drop, PartialEq)]
 pub(crate) struct Content {
     pub(crate) type_octet: u8,
-    count: usize,
-    elements: [Found; MOST_ELEMENTS],
+    elements: ArrayVec<Found, ROOM>,
 }
 
 impl Content {
     pub(crate) fn new(type_octet: u8) -> Content {
         Content {
             type_octet,
-            count: 0,
-            elements: [NOTHING; MOST_ELEMENTS],
+            elements: ArrayVec::new(),
         }
     }
 
-    // Counts every element, also one that finds no room, so that it cannot go unseen.
+    // Where an element finds no room, there are too many already.
     pub(crate) fn add(&mut self, found: Found) {
-        if self.count < MOST_ELEMENTS {
-            self.elements[self.count] = found;
-        }
-        self.count = self.count.saturating_add(1);
+        let _ = self.elements.try_push(found);
     }
 }
 
 // What a frame says in front of its message.
-#[derive(Clone, Copy, PartialEq)]
+#[derive(Clone, Copy, Debug, PartialEq, Eq)]
 pub(crate) struct Header {
     pub(crate) source: u8,
     pub(crate) destination: u8,
@@ -76,11 +65,11 @@ pub(crate) struct Header {
     pub(crate) answers: u32,
 }
 
-#[derive(Clone, Copy, PartialEq)]
-pub(crate) enum Answer {
-    Message(Content),
-    Frame(Header, Content),
-    Refused(Refusal),
+// A message, behind the header of its frame if it is in one.
+#[derive(Drop, PartialEq)]
+pub(crate) struct Answer {
+    pub(crate) header: Option<Header>,
+    pub(crate) content: Content,
 }
 
 impl fmt::Display for Found {
@@ -90,23 +79,21 @@ impl fmt::Display for Found {
             digits,
             value,
         } = *self;
-        if digits > 0 {
-            write!(
+        match digits {
+            Some(digits) => write!(
                 f,
                 "element {identifier:02X} = {value} with digit count {digits}"
-            )
-        } else {
-            write!(f, "element {identifier:02X} = hexadecimal {value:X}")
+            ),
+            None => write!(f, "element {identifier:02X} = hexadecimal {value:X}"),
         }
     }
 }
 
 impl fmt::Display for Content {
     fn fmt<W: fmt::Write>(&self, f: &mut fmt::Formatter<W>) -> fmt::Result {
-        let type_octet = self.type_octet;
-        let count = self.count;
-        write!(f, "type {type_octet:02X} with {count} elements")?;
-        for found in self.elements.iter().take(count) {
+        let count = self.elements.len();
+        write!(f, "type {:02X} with {count} elements", self.type_octet)?;
+        for found in &self.elements {
             write!(f, ", {found}")?;
         }
         Ok(())
@@ -128,24 +115,44 @@ impl fmt::Display for Header {
     }
 }
 
-impl fmt::Display for Refusal {
+impl fmt::Display for Part {
     fn fmt<W: fmt::Write>(&self, f: &mut fmt::Formatter<W>) -> fmt::Result {
-        let part = match self.part {
+        f.write_str(match self {
             Part::Frame => "frame",
             Part::Message => "message",
-        };
-        let number = self.number;
-        let place = self.place;
+        })
+    }
+}
+
+impl fmt::Display for Refusal {
+    fn fmt<W: fmt::Write>(&self, f: &mut fmt::Formatter<W>) -> fmt::Result {
+        let Refusal {
+            part,
+            number,
+            place,
+        } = *self;
         write!(f, "fault {number} of the {part} at place {place}")
     }
 }
 
 impl fmt::Display for Answer {
     fn fmt<W: fmt::Write>(&self, f: &mut fmt::Formatter<W>) -> fmt::Result {
-        match self {
-            Answer::Message(content) => write!(f, "{content}"),
-            Answer::Frame(header, content) => write!(f, "{header}, {content}"),
-            Answer::Refused(refusal) => write!(f, "{refusal}"),
+        if let Some(header) = self.header {
+            write!(f, "{header}, ")?;
+        }
+        write!(f, "{}", self.content)
+    }
+}
+
+// What a reader answered, or why it refused, as a person reads it.
+#[derive(Clone, Copy, PartialEq)]
+pub(crate) struct Shown<'a>(pub(crate) Result<&'a Answer, &'a Refusal>);
+
+impl fmt::Display for Shown<'_> {
+    fn fmt<W: fmt::Write>(&self, f: &mut fmt::Formatter<W>) -> fmt::Result {
+        match self.0 {
+            Ok(answer) => write!(f, "{answer}"),
+            Err(refusal) => write!(f, "{refusal}"),
         }
     }
 }

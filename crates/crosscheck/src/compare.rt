@@ -20,33 +20,30 @@ const ROOM: usize = 80;
 // Stands in the buffer before anything is written.
 const UNTOUCHED: u8 = 0xA5;
 
-// What the library made of octets. What it refused is not written again.
-#[derive(Clone, Copy)]
-pub(crate) struct Verdict {
+// What the library made of octets that it accepted, and whether it writes the same octets of it.
+#[derive(Drop)]
+pub(crate) struct Accepted {
     pub(crate) answer: Answer,
     pub(crate) written_again: bool,
 }
 
-fn refused(fault: Fault) -> Verdict {
-    let part = match fault.kind.layer() {
-        Layer::Frame => Part::Frame,
-        Layer::Message => Part::Message,
-    };
-    let refusal = Refusal {
-        part,
-        number: fault.kind.number(),
-        place: fault.place,
-    };
-    Verdict {
-        answer: Answer::Refused(refusal),
-        written_again: false,
+impl From<Fault> for Refusal {
+    fn from(fault: Fault) -> Refusal {
+        Refusal {
+            part: match fault.kind.layer() {
+                Layer::Frame => Part::Frame,
+                Layer::Message => Part::Message,
+            },
+            number: fault.kind.number(),
+            place: fault.place,
+        }
     }
 }
 
 fn mobile(imsi: Imsi) -> Found {
     Found {
         identifier: 0x01,
-        digits: imsi.digits,
+        digits: Some(imsi.digits),
         value: imsi.value,
     }
 }
@@ -54,7 +51,7 @@ fn mobile(imsi: Imsi) -> Found {
 fn number(identifier: u8, value: u64) -> Found {
     Found {
         identifier,
-        digits: 0,
+        digits: None,
         value,
     }
 }
@@ -64,39 +61,45 @@ fn area(identifier: u8, area: LocationArea) -> Found {
     number(identifier, u64::from_be_bytes([0, 0, 0, a, b, c, d, e]))
 }
 
-fn cause(cause: Cause) -> Found {
-    match cause {
-        Cause::NotAttached => number(0x03, 1),
-        Cause::MovedToAnotherVlr => number(0x03, 2),
+// Of two values the one that an element holds, the first as 1 and the second as 2; any other as 0, which
+// no second reader accepts.
+fn either<T: PartialEq + Drop>(identifier: u8, value: T, choices: [T; 2]) -> Found {
+    let [first, second] = choices;
+    if value == first {
+        number(identifier, 1)
+    } else if value == second {
+        number(identifier, 2)
+    } else {
+        number(identifier, 0)
     }
+}
+
+fn cause(cause: Cause) -> Found {
+    either(0x03, cause, [Cause::NotAttached, Cause::MovedToAnotherVlr])
 }
 
 fn update(update: UpdateType) -> Found {
-    match update {
-        UpdateType::ImsiAttach => number(0x04, 1),
-        UpdateType::Normal => number(0x04, 2),
-    }
+    either(0x04, update, [UpdateType::ImsiAttach, UpdateType::Normal])
 }
 
 fn class(class: Class) -> Found {
-    match class {
-        Class::A => number(0x07, 1),
-        Class::B => number(0x07, 2),
-    }
+    either(0x07, class, [Class::A, Class::B])
 }
 
 fn gprs_detach(detach: GprsDetachType) -> Found {
-    match detach {
-        GprsDetachType::ByNetwork => number(0x09, 1),
-        GprsDetachType::ByMobile => number(0x09, 2),
-    }
+    either(
+        0x09,
+        detach,
+        [GprsDetachType::ByNetwork, GprsDetachType::ByMobile],
+    )
 }
 
 fn imsi_detach(detach: ImsiDetachType) -> Found {
-    match detach {
-        ImsiDetachType::Unacknowledged => number(0x0A, 1),
-        ImsiDetachType::Acknowledged => number(0x0A, 2),
-    }
+    either(
+        0x0A,
+        detach,
+        [ImsiDetachType::Unacknowledged, ImsiDetachType::Acknowledged],
+    )
 }
 
 fn reject(cause: RejectCause) -> Found {
@@ -183,59 +186,55 @@ fn holds(buffer: &[u8], octets: &[u8]) -> bool
     ensures same { result ≡ true → (k : ℕ) → k < length buffer.now → k < length octets.now → slice_index buffer.now k ≡ slice_index octets.now k }
     ensures beyond { result ≡ true → (k : ℕ) → k < length buffer.now → length octets.now ≤ k → slice_index buffer.now k ≡ 165 }
 {
-    for (place, octet) in buffer.iter().enumerate() {
-        let expected = if place < octets.len() {
-            octets[place]
-        } else {
-            UNTOUCHED
-        };
-        if *octet != expected {
-            return false;
-        }
-    }
-    octets.len() <= buffer.len()
+    let Some(behind) = buffer.strip_prefix(octets) else {
+        return false;
+    };
+    behind.iter().all(|octet| *octet == UNTOUCHED)
 }
 
-fn of_message(message: Message, octets: &[u8]) -> Verdict {
+// Does the writer make these octets, and no others?
+fn makes<W: FnOnce(&mut [u8]) -> Result<usize, Fault>>(writer: W, octets: &[u8]) -> bool
+    requires { W.IsAlwaysCallable writer }
+{
     let mut buffer = [UNTOUCHED; ROOM];
-    let written_again = match write_message(message, &mut buffer) {
+    match writer(&mut buffer) {
         Ok(count) => count == octets.len() && holds(&buffer, octets),
         Err(_) => false,
-    };
-    Verdict {
-        answer: Answer::Message(flat(message)),
-        written_again,
     }
 }
 
-fn of_frame(frame: Frame, octets: &[u8]) -> Verdict {
-    let mut buffer = [UNTOUCHED; ROOM];
-    let written_again = match write_frame(frame, &mut buffer) {
-        Ok(count) => count == octets.len() && holds(&buffer, octets),
-        Err(_) => false,
-    };
+fn ask_for_message(octets: &[u8]) -> Result<Accepted, Refusal> {
+    let message = read_message(Reader::new(octets))?;
+    Ok(Accepted {
+        answer: Answer {
+            header: None,
+            content: flat(message),
+        },
+        written_again: makes(|buffer| write_message(message, buffer), octets),
+    })
+}
+
+fn ask_for_frame(octets: &[u8]) -> Result<Accepted, Refusal> {
+    let frame = read_frame(octets)?;
     let header = Header {
         source: frame.source.number,
         destination: frame.destination.number,
         stamp: frame.stamp,
         answers: frame.answers,
     };
-    Verdict {
-        answer: Answer::Frame(header, flat(frame.message)),
-        written_again,
-    }
+    Ok(Accepted {
+        answer: Answer {
+            header: Some(header),
+            content: flat(frame.message),
+        },
+        written_again: makes(|buffer| write_frame(frame, buffer), octets),
+    })
 }
 
 // The library's answer.
-pub(crate) fn ask_library(form: Form, octets: &[u8]) -> Verdict {
+pub(crate) fn ask_library(form: Form, octets: &[u8]) -> Result<Accepted, Refusal> {
     match form {
-        Form::Message => match read_message(Reader::new(octets)) {
-            Ok(message) => of_message(message, octets),
-            Err(fault) => refused(fault),
-        },
-        Form::Frame => match read_frame(octets) {
-            Ok(frame) => of_frame(frame, octets),
-            Err(fault) => refused(fault),
-        },
+        Form::Message => ask_for_message(octets),
+        Form::Frame => ask_for_frame(octets),
     }
 }

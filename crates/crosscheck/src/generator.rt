@@ -1,7 +1,7 @@
 // Numbers that look random and are the same in every run, and lawful octets made of them.
 ghost use Rattle.std.specs.Prelude.{◌≡◌, ◌+◌, ◌*◌, ◌%◌, ◌^◌, ◌<◌, ◌≤◌};
 
-use crate::table::{Kind, Row, rows};
+use crate::table::{Kind, MessageType, Row};
 use std::alloc::{AllocError, Global};
 
 // A factor and a step with which every state is passed before one comes again.
@@ -81,7 +81,7 @@ impl Choice {
 // A lawful message to be made: with how many digits in its IMSI, and which optional elements.
 #[derive(Clone, Copy)]
 pub(crate) struct Plan {
-    pub(crate) type_octet: u8,
+    pub(crate) message: &'static MessageType,
     pub(crate) digits: u8,
     pub(crate) tmsi: bool,
     pub(crate) channel: bool,
@@ -95,19 +95,19 @@ fn add_imsi(
     choice: Choice,
     source: &mut Source,
 ) -> Result<(), AllocError> {
-    let pairs = digits / 2;
     let odd = digits % 2 == 1;
     let mark = if odd { 9 } else { 1 };
-    octets.push(pairs.saturating_add(1))?;
+    octets.push((digits / 2).saturating_add(1))?;
     octets.push(choice.from(source, 0, 9) * 16 + mark)?;
-    for pair in 0..pairs {
+    // The octets both of whose halves are digits.
+    for _ in 0..digits.saturating_sub(1) / 2 {
         let low = choice.from(source, 0, 9);
-        let high = if odd || pair.saturating_add(1) < pairs {
-            choice.from(source, 0, 9)
-        } else {
-            15
-        };
+        let high = choice.from(source, 0, 9);
         octets.push(high * 16 + low)?;
+    }
+    if !odd {
+        let low = choice.from(source, 0, 9);
+        octets.push(15 * 16 + low)?;
     }
     Ok(())
 }
@@ -126,9 +126,9 @@ pub(crate) fn add_element(
             octets.push(1)?;
             octets.push(plan.choice.from(source, low, high))?;
         }
-        Kind::Number => {
-            octets.push(row.least)?;
-            for _ in 0..row.least {
+        Kind::Number { size } => {
+            octets.push(size)?;
+            for _ in 0..size {
                 octets.push(plan.choice.from(source, 0, 255))?;
             }
         }
@@ -142,11 +142,11 @@ pub(crate) fn lawful_message(
     source: &mut Source,
 ) -> Result<Vec<u8>, AllocError> {
     let mut octets = Vec::new(heap);
-    octets.push(plan.type_octet)?;
-    for row in rows(plan.type_octet) {
+    octets.push(plan.message.octet)?;
+    for row in plan.message.rows() {
         // Of the optional elements the TMSI is a number and the channel is not.
         let wanted = match row.kind {
-            Kind::Number => plan.tmsi,
+            Kind::Number { .. } => plan.tmsi,
             _ => plan.channel,
         };
         if !row.optional || wanted {

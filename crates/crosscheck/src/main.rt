@@ -4,8 +4,10 @@
 
 mod answer;
 mod compare;
+mod counts;
 mod generator;
 mod reader;
+mod rule;
 mod table;
 mod tally;
 mod trials;

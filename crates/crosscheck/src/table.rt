@@ -1,4 +1,5 @@
 // The format as a table: which elements each message has, and what each may hold.
+use std::ops::RangeInclusive;
 
 // How the contents of an element are read.
 #[derive(Clone, Copy)]
@@ -7,152 +8,175 @@ pub(crate) enum Kind {
     Digits,
     // one octet within bounds
     Octet { low: u8, high: u8 },
-    // any octets, as one number, the high octet first
-    Number,
+    // so many octets, any, as one number, the high octet first
+    Number { size: u8 },
+}
+
+impl Kind {
+    // How many content octets there may be.
+    pub(crate) fn sizes(self) -> RangeInclusive<u8> {
+        match self {
+            Kind::Digits => 1..=8,
+            Kind::Octet { .. } => 1..=1,
+            Kind::Number { size } => size..=size,
+        }
+    }
 }
 
 // One element of a message.
 #[derive(Clone, Copy)]
 pub(crate) struct Row {
     pub(crate) identifier: u8,
-    // the fewest and the most content octets
-    pub(crate) least: u8,
-    pub(crate) most: u8,
     pub(crate) optional: bool,
     pub(crate) kind: Kind,
 }
 
 const IMSI: Row = Row {
     identifier: 0x01,
-    least: 1,
-    most: 8,
     optional: false,
     kind: Kind::Digits,
 };
 
 const TMSI: Row = Row {
     identifier: 0x02,
-    least: 4,
-    most: 4,
     optional: true,
-    kind: Kind::Number,
+    kind: Kind::Number { size: 4 },
 };
 
 const CAUSE: Row = Row {
     identifier: 0x03,
-    least: 1,
-    most: 1,
     optional: false,
     kind: Kind::Octet { low: 1, high: 2 },
 };
 
 const UPDATE: Row = Row {
     identifier: 0x04,
-    least: 1,
-    most: 1,
-    optional: false,
-    kind: Kind::Octet { low: 1, high: 2 },
+    ..CAUSE
 };
 
 const OLD_AREA: Row = Row {
     identifier: 0x05,
-    least: 5,
-    most: 5,
     optional: false,
-    kind: Kind::Number,
+    kind: Kind::Number { size: 5 },
 };
 
 const NEW_AREA: Row = Row {
     identifier: 0x06,
-    least: 5,
-    most: 5,
-    optional: false,
-    kind: Kind::Number,
+    ..OLD_AREA
 };
 
 const CLASS: Row = Row {
     identifier: 0x07,
-    least: 1,
-    most: 1,
-    optional: false,
-    kind: Kind::Octet { low: 1, high: 2 },
+    ..CAUSE
 };
 
 const REJECT: Row = Row {
     identifier: 0x08,
-    least: 1,
-    most: 1,
     optional: false,
     kind: Kind::Octet { low: 1, high: 255 },
 };
 
 const GPRS_DETACH: Row = Row {
     identifier: 0x09,
-    least: 1,
-    most: 1,
-    optional: false,
-    kind: Kind::Octet { low: 1, high: 2 },
+    ..CAUSE
 };
 
 const IMSI_DETACH: Row = Row {
     identifier: 0x0A,
-    least: 1,
-    most: 1,
-    optional: false,
-    kind: Kind::Octet { low: 1, high: 2 },
+    ..CAUSE
 };
 
 const ENTITY: Row = Row {
     identifier: 0x0B,
-    least: 1,
-    most: 1,
     optional: false,
     kind: Kind::Octet { low: 1, high: 254 },
 };
 
 const CHANNEL: Row = Row {
     identifier: 0x0C,
-    least: 1,
-    most: 1,
     optional: true,
     kind: Kind::Octet { low: 0, high: 3 },
 };
 
-// The type octets of the messages.
-pub(crate) const TYPES: [u8; 12] = [
-    0x00, 0x01, 0x02, 0x06, 0x07, 0x08, 0x09, 0x0A, 0x0E, 0x0F, 0x11, 0x12,
-];
+// One type of message.
+#[derive(Clone, Copy)]
+pub(crate) struct MessageType {
+    pub(crate) octet: u8,
+    // what people call it
+    pub(crate) name: &'static str,
+    // its elements in their order
+    rows: &'static [Row],
+}
 
-// The elements of a message in their order, or no row where no message has this type.
-pub(crate) fn rows(type_octet: u8) -> &'static [Row] {
-    match type_octet {
-        0x00 => &[IMSI, TMSI, CHANNEL],
-        0x01 | 0x02 => &[IMSI, CAUSE],
-        0x06 => &[IMSI, UPDATE, OLD_AREA, NEW_AREA, CLASS],
-        0x07 => &[IMSI, NEW_AREA],
-        0x08 => &[IMSI, REJECT],
-        0x09 | 0x0A => &[ENTITY],
-        0x0E | 0x0F => &[IMSI, GPRS_DETACH],
-        0x11 | 0x12 => &[IMSI, IMSI_DETACH],
-        _ => &[],
+impl MessageType {
+    pub(crate) fn rows(&self) -> &'static [Row] {
+        self.rows
     }
 }
 
-// What people call a message.
-pub(crate) fn name(type_octet: u8) -> &'static str {
-    match type_octet {
-        0x00 => "PAGING",
-        0x01 => "PAGING_FAILURE",
-        0x02 => "MOBILE_STATUS",
-        0x06 => "LU Request",
-        0x07 => "LU Accept",
-        0x08 => "LU Reject",
-        0x09 => "RESET",
-        0x0A => "RESET_ACKNOWLEDGE",
-        0x0E => "GPRS_DETACH Indication",
-        0x0F => "GPRS_DETACH Acknowledge",
-        0x11 => "IMSI_DETACH Indication",
-        0x12 => "IMSI_DETACH Acknowledge",
-        _ => "no message",
-    }
+pub(crate) static TYPES: [MessageType; 12] = [
+    MessageType {
+        octet: 0x00,
+        name: "PAGING",
+        rows: &[IMSI, TMSI, CHANNEL],
+    },
+    MessageType {
+        octet: 0x01,
+        name: "PAGING_FAILURE",
+        rows: &[IMSI, CAUSE],
+    },
+    MessageType {
+        octet: 0x02,
+        name: "MOBILE_STATUS",
+        rows: &[IMSI, CAUSE],
+    },
+    MessageType {
+        octet: 0x06,
+        name: "LU Request",
+        rows: &[IMSI, UPDATE, OLD_AREA, NEW_AREA, CLASS],
+    },
+    MessageType {
+        octet: 0x07,
+        name: "LU Accept",
+        rows: &[IMSI, NEW_AREA],
+    },
+    MessageType {
+        octet: 0x08,
+        name: "LU Reject",
+        rows: &[IMSI, REJECT],
+    },
+    MessageType {
+        octet: 0x09,
+        name: "RESET",
+        rows: &[ENTITY],
+    },
+    MessageType {
+        octet: 0x0A,
+        name: "RESET_ACKNOWLEDGE",
+        rows: &[ENTITY],
+    },
+    MessageType {
+        octet: 0x0E,
+        name: "GPRS_DETACH Indication",
+        rows: &[IMSI, GPRS_DETACH],
+    },
+    MessageType {
+        octet: 0x0F,
+        name: "GPRS_DETACH Acknowledge",
+        rows: &[IMSI, GPRS_DETACH],
+    },
+    MessageType {
+        octet: 0x11,
+        name: "IMSI_DETACH Indication",
+        rows: &[IMSI, IMSI_DETACH],
+    },
+    MessageType {
+        octet: 0x12,
+        name: "IMSI_DETACH Acknowledge",
+        rows: &[IMSI, IMSI_DETACH],
+    },
+];
+
+pub(crate) fn message_type(octet: u8) -> Option<&'static MessageType> {
+    TYPES.iter().find(|message| message.octet == octet)
 }

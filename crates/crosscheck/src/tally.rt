@@ -1,10 +1,12 @@
 // What both readers answered, counted.
 ghost use Rattle.std.specs.Prelude.{◌≡◌, ◌<◌, true, is_ok};
 
-use crate::answer::{Answer, Content, Form, Hexadecimal};
-use crate::compare::{Verdict, ask_library};
+use crate::answer::{Answer, Form, Hexadecimal, Shown};
+use crate::compare::{Accepted, ask_library};
+use crate::counts::{Counts, count};
 use crate::reader::read;
-use crate::table::{TYPES, name};
+use crate::rule::Rule;
+use crate::table::{MessageType, TYPES};
 use anyhow::anyhow;
 use std::io;
 
@@ -12,51 +14,44 @@ use std::io;
 const SHOWN: u64 = 20;
 // A fault or a message type that came up less often was not tried enough.
 const ENOUGH: u64 = 500;
-// The faults have the numbers 20 to 27.
-const FIRST_FAULT: u8 = 20;
 
-const FAULTS: [&str; 8] = [
-    "not 11 to 64 octets",
-    "nodes unlawful or equal",
-    "stamp 0",
-    "unknown message type",
-    "wrong identifier",
-    "forbidden length",
-    "unlawful contents",
-    "octets after the last element",
-];
-// One more than the highest message type.
-const TYPES_END: usize = 0x13;
+// How many strings were read as one form, and how many of them both readers accepted.
+#[derive(Clone, Copy, Default)]
+struct Strings {
+    read: u64,
+    accepted: u64,
+}
 
 #[derive(Drop)]
 pub(crate) struct Tally {
-    messages: u64,
-    frames: u64,
-    accepted_messages: u64,
-    accepted_frames: u64,
-    accepted_types: [u64; TYPES_END],
-    faults: [u64; 8],
+    messages: Strings,
+    frames: Strings,
+    accepted_types: Counts<MessageType, 12>,
+    broken: Counts<Rule, 8>,
     written_again: u64,
     differences: u64,
-}
-
-fn count(counter: &mut u64)
-    ensures { 0 < counter.new }
-{
-    *counter = counter.saturating_add(1);
 }
 
 impl Tally {
     pub(crate) fn new() -> Tally {
         Tally {
-            messages: 0,
-            frames: 0,
-            accepted_messages: 0,
-            accepted_frames: 0,
-            accepted_types: [0; TYPES_END],
-            faults: [0; 8],
+            messages: Strings::default(),
+            frames: Strings::default(),
+            accepted_types: Counts {
+                rows: TYPES.map(|message| (message, 0)),
+            },
+            broken: Counts {
+                rows: Rule::ALL.map(|rule| (rule, 0)),
+            },
             written_again: 0,
             differences: 0,
+        }
+    }
+
+    fn strings(&mut self, form: Form) -> &mut Strings {
+        match form {
+            Form::Message => &mut self.messages,
+            Form::Frame => &mut self.frames,
         }
     }
 
@@ -67,47 +62,33 @@ impl Tally {
         form: Form,
         octets: &[u8],
     ) -> io::Result<()> {
-        match form {
-            Form::Message => count(&mut self.messages),
-            Form::Frame => count(&mut self.frames),
-        }
+        count(&mut self.strings(form).read);
         let second = read(form, octets);
         let library = ask_library(form, octets);
-        if second != library.answer {
-            return self.differ(rt, octets, second, library);
-        }
-        match second {
-            Answer::Message(content) => {
-                count(&mut self.accepted_messages);
-                self.accept(rt, octets, content, library)
+        match (&second, &library) {
+            (Ok(answer), Ok(accepted)) if *answer == accepted.answer => {
+                count(&mut self.strings(form).accepted);
+                self.accept(rt, octets, accepted)
             }
-            Answer::Frame(_, content) => {
-                count(&mut self.accepted_frames);
-                self.accept(rt, octets, content, library)
-            }
-            Answer::Refused(refusal) => {
-                let index = refusal.number.wrapping_sub(FIRST_FAULT) as usize;
-                if let Some(counter) = self.faults.get_mut(index) {
-                    count(counter);
-                }
+            (Err(refusal), Err(other)) if refusal == other => {
+                self.broken.count(|rule| rule as u8 == refusal.number);
                 Ok(())
+            }
+            _ => {
+                let library = library.as_ref().map(|accepted| &accepted.answer);
+                self.differ(rt, octets, Shown(second.as_ref()), Shown(library))
             }
         }
     }
 
     // Both accepted the octets, so the library must write them again.
-    fn accept(
-        &mut self,
-        rt: &HostRuntime,
-        octets: &[u8],
-        content: Content,
-        library: Verdict,
-    ) -> io::Result<()> {
-        if let Some(counter) = self.accepted_types.get_mut(content.type_octet as usize) {
-            count(counter);
-        }
-        if !library.written_again {
-            return self.differ(rt, octets, library.answer, library);
+    fn accept(&mut self, rt: &HostRuntime, octets: &[u8], accepted: &Accepted) -> io::Result<()> {
+        let type_octet = accepted.answer.content.type_octet;
+        self.accepted_types
+            .count(|message| message.octet == type_octet);
+        if !accepted.written_again {
+            let both = Shown(Ok(&accepted.answer));
+            return self.differ(rt, octets, both, both);
         }
         count(&mut self.written_again);
         Ok(())
@@ -117,8 +98,8 @@ impl Tally {
         &mut self,
         rt: &HostRuntime,
         octets: &[u8],
-        second: Answer,
-        library: Verdict,
+        second: Shown,
+        library: Shown,
     ) -> io::Result<()>
         ensures { 0 < self.new.differences }
     {
@@ -127,40 +108,40 @@ impl Tally {
             return Ok(());
         }
         let octets = Hexadecimal { octets };
-        let answer = library.answer;
         println!(rt; "Difference on {octets}")?;
         println!(rt; "    second reader: {second}")?;
-        println!(rt; "    library:       {answer}")?;
-        if second == answer {
+        println!(rt; "    library:       {library}")?;
+        if second == library {
             println!(rt; "    They read alike, but the library writes other octets.")?;
         }
         Ok(())
     }
 
     pub(crate) fn print(&self, rt: &HostRuntime) -> io::Result<()> {
-        let strings = self.messages.saturating_add(self.frames);
+        let Tally {
+            messages,
+            frames,
+            ..
+        } = self;
+        let strings = messages.read.saturating_add(frames.read);
         println!(rt;
             "{strings} strings of octets, each read by the library and by a second reader."
         )?;
         println!(rt;
             "Messages: {} strings, {} accepted by both readers.",
-            self.messages, self.accepted_messages
+            messages.read, messages.accepted
         )?;
         println!(rt;
             "Frames: {} strings, {} accepted by both readers.",
-            self.frames, self.accepted_frames
+            frames.read, frames.accepted
         )?;
         println!(rt; "Accepted of each type, alone or in a frame:")?;
-        for type_octet in TYPES {
-            let times = self.accepted(type_octet);
-            let name = name(type_octet);
-            println!(rt; "    {type_octet:02X} {name}: {times}")?;
+        for (message, times) in &self.accepted_types.rows {
+            println!(rt; "    {:02X} {}: {times}", message.octet, message.name)?;
         }
         println!(rt; "Refused by both with the same fault at the same place:")?;
-        for (index, words) in FAULTS.iter().enumerate() {
-            let times = self.faults.get(index).copied().unwrap_or(0);
-            let number = index.saturating_add(FIRST_FAULT as usize);
-            println!(rt; "    {number} {words}: {times}")?;
+        for (rule, times) in &self.broken.rows {
+            println!(rt; "    {} {rule}: {times}", *rule as u8)?;
         }
         println!(rt; "Written again to the same octets: {}.", self.written_again)?;
         println!(rt; "Differences: {}.", self.differences)
@@ -173,25 +154,14 @@ impl Tally {
         if self.differences > 0 {
             return Err(anyhow!("the two readers differ"));
         }
-        for (words, times) in FAULTS.iter().zip(self.faults.iter()) {
-            if *times < ENOUGH {
-                println!(rt; "Seen too seldom: {words}.")?;
-                return Err(anyhow!("a fault was seen too seldom"));
-            }
+        if let Some(rule) = self.broken.below(ENOUGH) {
+            println!(rt; "Seen too seldom: {rule}.")?;
+            return Err(anyhow!("a fault was seen too seldom"));
         }
-        for type_octet in TYPES {
-            if self.accepted(type_octet) < ENOUGH {
-                println!(rt; "Accepted too seldom: {}.", name(type_octet))?;
-                return Err(anyhow!("a message type was accepted too seldom"));
-            }
+        if let Some(message) = self.accepted_types.below(ENOUGH) {
+            println!(rt; "Accepted too seldom: {}.", message.name)?;
+            return Err(anyhow!("a message type was accepted too seldom"));
         }
         Ok(())
-    }
-
-    fn accepted(&self, type_octet: u8) -> u64 {
-        self.accepted_types
-            .get(type_octet as usize)
-            .copied()
-            .unwrap_or(0)
     }
 }

@@ -1,14 +1,13 @@
 // Which octets the readers are tried on.
 use crate::answer::Form;
 use crate::generator::{Choice, Plan, Source, add_element, lawful_frame, lawful_message};
-use crate::table::{TYPES, rows};
+use crate::table::{MessageType, TYPES};
 use crate::tally::Tally;
 
 const CHOICES: [Choice; 3] = [Choice::Lowest, Choice::Highest, Choice::Any];
 // Whether the TMSI and the channel are present, in the one message that may have them.
 const PRESENCES: [(bool, bool); 4] = [(false, false), (true, false), (false, true), (true, true)];
 
-const PAGING: u8 = 0x00;
 // Octets are lengthened until there are more than the 64 of the longest frame.
 const LENGTHENED: usize = 67;
 // So many strings with two wrong octets are made of each lawful one.
@@ -36,35 +35,42 @@ impl Trials<'_> {
         Ok(())
     }
 
+    // The octet at a place replaced by each of these.
+    fn replaced_at(
+        &mut self,
+        form: Form,
+        octets: &[u8],
+        place: usize,
+        others: &[u8],
+    ) -> anyhow::Result<()> {
+        let mut changed = Vec::from_slice(self.rt.alloc(), octets)?;
+        for other in others {
+            put(&mut changed, place, *other);
+            self.compare(form, changed.as_slice())?;
+        }
+        Ok(())
+    }
+
     // Each octet replaced by some others: its neighbours, one half turned over, and any.
     fn replaced(&mut self, form: Form, octets: &[u8]) -> anyhow::Result<()> {
-        let mut changed = Vec::from_slice(self.rt.alloc(), octets)?;
         for (place, octet) in octets.iter().enumerate() {
-            let other = self.source.octet();
-            for value in [
+            let others = [
                 octet.wrapping_add(1),
                 octet.wrapping_sub(1),
                 *octet ^ 0x0F,
                 *octet ^ 0xF0,
-                other,
-            ] {
-                put(&mut changed, place, value);
-                self.compare(form, changed.as_slice())?;
-            }
-            put(&mut changed, place, *octet);
+                self.source.octet(),
+            ];
+            self.replaced_at(form, octets, place, &others)?;
         }
         Ok(())
     }
 
     // Each octet replaced by every value that it can have.
     fn replaced_by_all(&mut self, form: Form, octets: &[u8]) -> anyhow::Result<()> {
-        let mut changed = Vec::from_slice(self.rt.alloc(), octets)?;
-        for (place, octet) in octets.iter().enumerate() {
-            for value in 0..=255 {
-                put(&mut changed, place, value);
-                self.compare(form, changed.as_slice())?;
-            }
-            put(&mut changed, place, *octet);
+        let values: Vec<u8> = (0..=255).collect(self.rt.alloc())?;
+        for place in 0..octets.len() {
+            self.replaced_at(form, octets, place, values.as_slice())?;
         }
         Ok(())
     }
@@ -103,8 +109,8 @@ impl Trials<'_> {
 
     // Lengthened by one lawful element, of any message.
     fn with_element(&mut self, form: Form, octets: &[u8], plan: Plan) -> anyhow::Result<()> {
-        for type_octet in TYPES {
-            for row in rows(type_octet) {
+        for message in &TYPES {
+            for row in message.rows() {
                 let mut longer = Vec::from_slice(self.rt.alloc(), octets)?;
                 add_element(&mut longer, row, plan, &mut self.source)?;
                 self.compare(form, longer.as_slice())?;
@@ -158,32 +164,23 @@ impl Trials<'_> {
         self.bad_header(frame.as_slice())
     }
 
-    // The lowest values, the highest and others.
-    fn every_choice(
-        &mut self,
-        type_octet: u8,
-        digits: u8,
-        tmsi: bool,
-        channel: bool,
-    ) -> anyhow::Result<()> {
-        for choice in CHOICES {
-            self.planned(Plan {
-                type_octet,
-                digits,
-                tmsi,
-                channel,
-                choice,
-            })?;
-        }
-        Ok(())
-    }
-
-    // One type of message with every count of digits, with and without its optional elements.
-    fn every_plan(&mut self, type_octet: u8) -> anyhow::Result<()> {
+    // One type of message with every count of digits, with and without its optional elements, and each of
+    // these with the lowest values, the highest and others.
+    fn every_plan(&mut self, message: &'static MessageType) -> anyhow::Result<()> {
+        let has_optional = message.rows().iter().any(|row| row.optional);
         for digits in 1..=15 {
             for (tmsi, channel) in PRESENCES {
-                if type_octet == PAGING || !(tmsi || channel) {
-                    self.every_choice(type_octet, digits, tmsi, channel)?;
+                if !has_optional && (tmsi || channel) {
+                    continue;
+                }
+                for choice in CHOICES {
+                    self.planned(Plan {
+                        message,
+                        digits,
+                        tmsi,
+                        channel,
+                        choice,
+                    })?;
                 }
             }
         }
@@ -191,10 +188,10 @@ impl Trials<'_> {
     }
 
     // A message and a frame, with every value of every octet.
-    fn every_value(&mut self, type_octet: u8, digits: u8) -> anyhow::Result<()> {
+    fn every_value(&mut self, message: &'static MessageType, digits: u8) -> anyhow::Result<()> {
         let heap = self.rt.alloc();
         let plan = Plan {
-            type_octet,
+            message,
             digits,
             tmsi: true,
             channel: true,
@@ -220,10 +217,10 @@ impl Trials<'_> {
     }
 
     pub(crate) fn all(&mut self) -> anyhow::Result<()> {
-        for type_octet in TYPES {
-            self.every_plan(type_octet)?;
-            self.every_value(type_octet, 6)?;
-            self.every_value(type_octet, 7)?;
+        for message in &TYPES {
+            self.every_plan(message)?;
+            self.every_value(message, 6)?;
+            self.every_value(message, 7)?;
         }
         self.random(255)?;
         self.random(0x12)

@@ -1,9 +1,11 @@
 // The carrier at work, and what is printed of it.
-use crate::command::{Command, Make, Mistake, command_in};
+use crate::command::{Command, Make, command_in};
+use crate::mistake::{LineError, Mistake};
 use crate::relay::Relay;
 use crate::seen::{Offered, Seen};
 use crate::tally::{Event, Tally};
 use elements::node::NodeNumber;
+use std::io;
 
 // A carrier, and the line that it was made in.
 #[derive(Drop)]
@@ -28,19 +30,26 @@ impl Bench {
         }
     }
 
-    // Does what the next line asks for.
-    pub(crate) fn line(&mut self, rt: &HostRuntime, line: &[u8]) -> anyhow::Result<()> {
+    // Does what the next line asks for, or shows why it cannot.
+    pub(crate) fn line(&mut self, rt: &HostRuntime, line: &[u8]) -> io::Result<()> {
         self.number = self.number.saturating_add(1);
-        match command_in(rt.alloc(), line)? {
-            Command::Pass => Ok(()),
-            Command::Carrier(make) => self.carrier(rt, &make),
-            Command::Put(octets) => self.put(rt, octets.as_slice()),
-            Command::Take(node) => self.take(rt, node),
-            Command::Bad(mistake) => self.bad(rt, mistake),
+        match self.follow(rt, line) {
+            Ok(()) => Ok(()),
+            Err(LineError::Mistake(mistake)) => self.bad(rt, mistake),
+            Err(LineError::Io(error)) => Err(error),
         }
     }
 
-    fn carrier(&mut self, rt: &HostRuntime, make: &Make) -> anyhow::Result<()> {
+    fn follow(&mut self, rt: &HostRuntime, line: &[u8]) -> Result<(), LineError> {
+        match command_in(rt.alloc(), line)? {
+            Some(Command::Carrier(make)) => Ok(self.carrier(rt, &make)?),
+            Some(Command::Put(octets)) => self.put(rt, octets.as_slice()),
+            Some(Command::Take(node)) => self.take(rt, node),
+            None => Ok(()),
+        }
+    }
+
+    fn carrier(&mut self, rt: &HostRuntime, make: &Make) -> io::Result<()> {
         self.waiting(rt)?;
         let line = self.number;
         println!(rt; "line {line}: carrier {make}")?;
@@ -49,28 +58,16 @@ impl Bench {
         Ok(())
     }
 
-    fn put(&mut self, rt: &HostRuntime, octets: &[u8]) -> anyhow::Result<()> {
-        if !self.offer(octets) {
-            return self.bad(rt, Mistake::NoCarrier);
-        }
+    fn put(&mut self, rt: &HostRuntime, octets: &[u8]) -> Result<(), LineError> {
+        let placed = self.placed.as_mut().ok_or(Mistake::NoCarrier)?;
+        placed.relay.put(octets);
         self.tally.note(Event::Put);
         println!(rt; "line {}: {}", self.number, Offered { octets })?;
         Ok(())
     }
 
-    // Puts the octets, if there is a carrier.
-    fn offer(&mut self, octets: &[u8]) -> bool {
-        let Some(placed) = &mut self.placed else {
-            return false;
-        };
-        placed.relay.put(octets);
-        true
-    }
-
-    fn take(&mut self, rt: &HostRuntime, node: NodeNumber) -> anyhow::Result<()> {
-        let Some(placed) = &mut self.placed else {
-            return self.bad(rt, Mistake::NoCarrier);
-        };
+    fn take(&mut self, rt: &HostRuntime, node: NodeNumber) -> Result<(), LineError> {
+        let placed = self.placed.as_mut().ok_or(Mistake::NoCarrier)?;
         let given = placed.relay.take(node);
         let line = self.number;
         let NodeNumber { number } = node;
@@ -88,14 +85,13 @@ impl Bench {
         Ok(())
     }
 
-    fn bad(&mut self, rt: &HostRuntime, mistake: Mistake) -> anyhow::Result<()> {
+    fn bad(&mut self, rt: &HostRuntime, mistake: Mistake) -> io::Result<()> {
         self.tally.note(Event::BadLine);
-        println!(rt; "line {}: bad line: {mistake}", self.number)?;
-        Ok(())
+        println!(rt; "line {}: bad line: {mistake}", self.number)
     }
 
     // What waits in the carrier that is there.
-    fn waiting(&self, rt: &HostRuntime) -> anyhow::Result<()> {
+    fn waiting(&self, rt: &HostRuntime) -> io::Result<()> {
         let Some(placed) = &self.placed else {
             return Ok(());
         };
@@ -112,9 +108,8 @@ impl Bench {
     }
 
     // What still waits, and the tally.
-    pub(crate) fn end(&self, rt: &HostRuntime) -> anyhow::Result<()> {
+    pub(crate) fn end(&self, rt: &HostRuntime) -> io::Result<()> {
         self.waiting(rt)?;
-        println!(rt; "{}", self.tally)?;
-        Ok(())
+        println!(rt; "{}", self.tally)
     }
 }

@@ -3,6 +3,7 @@
 
 mod bench;
 mod command;
+mod mistake;
 mod relay;
 mod seen;
 mod tally;
@@ -19,7 +20,8 @@ fn run(rt: &HostRuntime) -> anyhow::Result<()> {
         let line = line?;
         bench.line(rt, &line)?;
     }
-    bench.end(rt)
+    bench.end(rt)?;
+    Ok(())
 }
 
 fn main(rt: HostRuntime) -> anyhow::Result<()> {

@@ -1,5 +1,5 @@
 // The carriers that a script can name.
-use crate::command::Make;
+use crate::command::{Base, Make};
 use carrier::carrier::Carrier;
 use carrier::datagram::Datagram;
 use elements::node::NodeNumber;
@@ -11,6 +11,7 @@ use queue::queue::Queue;
 use slip::carrying::Slip;
 use std::alloc::{AllocError, Global};
 
+// An enum, not a boxed dyn carrier, which no function may hand out; and a trait's six impls would be longer than three matches.
 #[derive(Drop)]
 pub(crate) enum Relay {
     Queue(Queue),
@@ -21,34 +22,32 @@ pub(crate) enum Relay {
     Nowhere(Nowhere),
 }
 
-// A slot keeps its frame when it is given, and then the frame does not wait.
+// The frames that wait in a mailbox. A slot keeps its frame when it is given, and then the frame does not wait.
+fn held(heap: Global, mailbox: &Mailbox) -> Result<Vec<Datagram>, AllocError> {
+    mailbox.slots[0..mailbox.count]
+        .iter()
+        .filter(|slot| waits(slot))
+        .map(|slot| slot.frame)
+        .collect(heap)
+}
+
 fn waits(slot: &Slot) -> bool {
     let octets = slot.frame.as_slice();
     slot.given < u32::from_be_bytes([octets[2], octets[3], octets[4], octets[5]])
 }
 
-fn held(heap: Global, slots: &[Slot]) -> Result<Vec<Datagram>, AllocError> {
-    let mut frames = Vec::new(heap);
-    for slot in slots {
-        if waits(slot) {
-            frames.push(slot.frame)?;
-        }
-    }
-    Ok(frames)
-}
-
 impl Relay {
     pub(crate) fn new(heap: Global, make: &Make) -> Result<Relay, AllocError> {
-        match make {
-            Make::Queue => Ok(Relay::Queue(Queue::new(heap)?)),
-            Make::Slip(script) => Ok(Relay::Slip(Slip::new(heap, script)?)),
-            Make::GateOverQueue => Ok(Relay::GateOverQueue(Gate::new(Queue::new(heap)?))),
-            Make::GateOverSlip(script) => Ok(Relay::GateOverSlip(Gate::new(Slip::new(
-                heap, script,
-            )?))),
-            Make::Mailbox => Ok(Relay::Mailbox(Mailbox::new())),
-            Make::Nowhere => Ok(Relay::Nowhere(Nowhere {})),
-        }
+        Ok(match make {
+            Make::Base(Base::Queue) => Relay::Queue(Queue::new(heap)?),
+            Make::Base(Base::Slip(script)) => Relay::Slip(Slip::new(heap, script)?),
+            Make::Gate(Base::Queue) => Relay::GateOverQueue(Gate::new(Queue::new(heap)?)),
+            Make::Gate(Base::Slip(script)) => {
+                Relay::GateOverSlip(Gate::new(Slip::new(heap, script)?))
+            }
+            Make::Mailbox => Relay::Mailbox(Mailbox::new()),
+            Make::Nowhere => Relay::Nowhere(Nowhere {}),
+        })
     }
 
     pub(crate) fn put(&mut self, octets: &[u8]) {
@@ -80,7 +79,7 @@ impl Relay {
             Relay::Slip(slip) => slip.queue.frames.to_vec(heap),
             Relay::GateOverQueue(gate) => gate.below.frames.to_vec(heap),
             Relay::GateOverSlip(gate) => gate.below.queue.frames.to_vec(heap),
-            Relay::Mailbox(mailbox) => held(heap, &mailbox.slots[0..mailbox.count]),
+            Relay::Mailbox(mailbox) => held(heap, mailbox),
             Relay::Nowhere(_) => Ok(Vec::new(heap)),
         }
     }

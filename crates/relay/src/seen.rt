@@ -36,7 +36,7 @@ impl fmt::Display for Offered<'_> {
     fn fmt<W: fmt::Write>(&self, f: &mut fmt::Formatter<W>) -> fmt::Result {
         match read_frame(self.octets) {
             Ok(frame) => write!(f, "put: {}", InWords(frame)),
-            Err(fault) if matches!(fault.kind, FaultKind::FrameSize) => {
+            Err(fault) if fault.kind == FaultKind::FrameSize => {
                 write!(f, "put, lost: {}", InWords(fault))
             }
             Err(fault) => write!(f, "put: {}", InWords(fault)),

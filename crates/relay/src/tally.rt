@@ -1,10 +1,10 @@
 // How often each thing came about.
 ghost use Rattle.std.specs.Prelude.{◌≡◌};
-ghost use Rattle.relay.specs.Tallies.{nothing_yet, noted};
+ghost use Rattle.relay.specs.Tallies.{nothing_yet, noted, one_more};
 
 use std::fmt;
 
-#[derive(Clone, Copy)]
+#[derive(Clone, Copy, Debug, PartialEq, Eq)]
 pub enum Event {
     Put,
     Given,
@@ -20,6 +20,12 @@ pub struct Tally {
     pub given: u64,
     pub nothing: u64,
     pub bad_lines: u64,
+}
+
+fn count(counter: &mut u64)
+    ensures { counter.new ≡ one_more counter.old }
+{
+    *counter = counter.saturating_add(1);
 }
 
 impl Tally {
@@ -40,16 +46,16 @@ impl Tally {
         ensures { self.new ≡ noted self.old event }
     {
         match event {
-            Event::Put => self.puts = self.puts.saturating_add(1),
+            Event::Put => count(&mut self.puts),
             Event::Given => {
-                self.takes = self.takes.saturating_add(1);
-                self.given = self.given.saturating_add(1);
+                count(&mut self.takes);
+                count(&mut self.given);
             }
             Event::Nothing => {
-                self.takes = self.takes.saturating_add(1);
-                self.nothing = self.nothing.saturating_add(1);
+                count(&mut self.takes);
+                count(&mut self.nothing);
             }
-            Event::BadLine => self.bad_lines = self.bad_lines.saturating_add(1),
+            Event::BadLine => count(&mut self.bad_lines),
         }
     }
 }

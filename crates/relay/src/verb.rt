@@ -1,28 +1,35 @@
 // The words that a line is known by, in capitals too.
+ghost use Rattle.std.specs.Result.{result_ok};
 ghost use Rattle.relay.specs.Verbs.{Asks, Names};
 
-#[derive(Clone, Copy)]
+use crate::mistake::Mistake;
+
+#[derive(Clone, Copy, Debug, PartialEq, Eq)]
 pub enum Verb {
     Carrier,
     Put,
     Take,
 }
 
-pub fn verb_of(word: &[u8]) -> Option<Verb>
-    ensures { Asks word.now result }
-{
-    if word.eq_ignore_ascii_case(b"carrier") {
-        Some(Verb::Carrier)
-    } else if word.eq_ignore_ascii_case(b"put") {
-        Some(Verb::Put)
-    } else if word.eq_ignore_ascii_case(b"take") {
-        Some(Verb::Take)
-    } else {
-        None
+impl TryFrom<&[u8]> for Verb {
+    type Error = Mistake;
+
+    ghost try_from_gives = { λ word result. Asks word.now (result_ok result) };
+
+    fn try_from(word: &[u8]) -> Result<Verb, Mistake> {
+        if word.eq_ignore_ascii_case(b"carrier") {
+            Ok(Verb::Carrier)
+        } else if word.eq_ignore_ascii_case(b"put") {
+            Ok(Verb::Put)
+        } else if word.eq_ignore_ascii_case(b"take") {
+            Ok(Verb::Take)
+        } else {
+            Err(Mistake::Verb)
+        }
     }
 }
 
-#[derive(Clone, Copy)]
+#[derive(Clone, Copy, Debug, PartialEq, Eq)]
 pub enum Name {
     Queue,
     Slip,
@@ -31,20 +38,24 @@ pub enum Name {
     Nowhere,
 }
 
-pub fn name_of(word: &[u8]) -> Option<Name>
-    ensures { Names word.now result }
-{
-    if word.eq_ignore_ascii_case(b"queue") {
-        Some(Name::Queue)
-    } else if word.eq_ignore_ascii_case(b"slip") {
-        Some(Name::Slip)
-    } else if word.eq_ignore_ascii_case(b"gate") {
-        Some(Name::Gate)
-    } else if word.eq_ignore_ascii_case(b"mailbox") {
-        Some(Name::Mailbox)
-    } else if word.eq_ignore_ascii_case(b"nowhere") {
-        Some(Name::Nowhere)
-    } else {
-        None
+impl TryFrom<&[u8]> for Name {
+    type Error = Mistake;
+
+    ghost try_from_gives = { λ word result. Names word.now (result_ok result) };
+
+    fn try_from(word: &[u8]) -> Result<Name, Mistake> {
+        if word.eq_ignore_ascii_case(b"queue") {
+            Ok(Name::Queue)
+        } else if word.eq_ignore_ascii_case(b"slip") {
+            Ok(Name::Slip)
+        } else if word.eq_ignore_ascii_case(b"gate") {
+            Ok(Name::Gate)
+        } else if word.eq_ignore_ascii_case(b"mailbox") {
+            Ok(Name::Mailbox)
+        } else if word.eq_ignore_ascii_case(b"nowhere") {
+            Ok(Name::Nowhere)
+        } else {
+            Err(Mistake::Carrier)
+        }
     }
 }

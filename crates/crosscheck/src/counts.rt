@@ -1,0 +1,35 @@
+// How often each of a few things came up.
+ghost use Rattle.std.specs.Prelude.{◌<◌};
+
+// A count that is full stays as it is.
+pub(crate) fn count(counter: &mut u64)
+    ensures { 0 < counter.new }
+{
+    *counter = counter.saturating_add(1);
+}
+
+// Each thing beside its count.
+#[derive(Drop)]
+pub(crate) struct Counts<K, const N: usize> {
+    pub(crate) rows: [(K, u64); N],
+}
+
+impl<K: Copy, const N: usize> Counts<K, N> {
+    // Counts the first thing of which this holds.
+    pub(crate) fn count<P: Fn(K) -> bool>(&mut self, is_it: P)
+        requires { P.IsAlwaysCallable is_it }
+    {
+        let found = self.rows.iter_mut().find(|(key, _)| is_it(*key));
+        if let Some((_, times)) = found {
+            count(times);
+        }
+    }
+
+    // The first thing that came up less often than this.
+    pub(crate) fn below(&self, enough: u64) -> Option<K> {
+        self.rows
+            .iter()
+            .find(|(_, times)| *times < enough)
+            .map(|(key, _)| *key)
+    }
+}
