@@ -1,7 +1,8 @@
 // The frame that a row of numbers says. Every fault is at place 0, since a row has no octets.
 ghost use Rattle.std.specs.Prelude.{◌≡◌, Ok};
 ghost use Rattle.capi.specs.Rows.{fields_of};
-ghost use Rattle.capi.specs.Taken.{fault_of, Fitted, FittedOption, node_from, code_from, area_from, imsi_from, imsi_and_from, paging_from, lu_request_from, lu_accept_from, body_from, message_from, frame_from};
+ghost use Rattle.messages.specs.Kinds.{octet_of};
+ghost use Rattle.capi.specs.Taken.{Fitted, FittedOption, node_from, code_from, area_from, imsi_from, imsi_and_from, paging_from, lu_request_from, lu_accept_from, body_from, message_from, frame_from};
 
 use crate::row::Row;
 use elements::area::LocationArea;
@@ -10,17 +11,8 @@ use elements::fault::{Fault, FaultKind};
 use elements::node::NodeNumber;
 use frames::frame::Frame;
 use imsi::Imsi;
-use messages::message::{
-    GPRS_DETACH_ACKNOWLEDGE, GPRS_DETACH_INDICATION, IMSI_DETACH_ACKNOWLEDGE,
-    IMSI_DETACH_INDICATION, LU_ACCEPT, LU_REJECT, LU_REQUEST, MOBILE_STATUS, Message, PAGING,
-    PAGING_FAILURE, RESET, RESET_ACKNOWLEDGE,
-};
-
-fn fault(kind: FaultKind) -> Fault
-    ensures { result ≡ fault_of kind }
-{
-    Fault { kind, place: 0 }
-}
+use messages::kind::MessageType;
+use messages::message::Message;
 
 // The number, if its type can hold it, or this fault.
 fn fitted<T: TryFrom<u64>>(number: u64, kind: FaultKind) -> Result<T, Fault>
@@ -28,7 +20,7 @@ where
     T::Error: Drop,
     ensures { Fitted T.try_from_gives kind number result }
 {
-    T::try_from(number).map_err(|_| fault(kind))
+    T::try_from(number).map_err(|_| kind.at(0))
 }
 
 // A number that may be absent: the flag says whether it is there.
@@ -40,7 +32,7 @@ where
     match flag {
         0 => Ok(None),
         1 => fitted(number, FaultKind::Contents).map(Some),
-        _ => Err(fault(FaultKind::Contents)),
+        _ => Err(FaultKind::Contents.at(0)),
     }
 }
 
@@ -56,7 +48,7 @@ fn code<T: Coded + Drop>(number: u64) -> Result<T, Fault>
     ensures { result ≡ code_from T.Coded.value_in number }
 {
     let octet = fitted(number, FaultKind::Contents)?;
-    T::from_octet(octet).ok_or(fault(FaultKind::Contents))
+    T::from_octet(octet).ok_or(FaultKind::Contents.at(0))
 }
 
 // A number of five octets.
@@ -64,7 +56,7 @@ fn area(number: u64) -> Result<LocationArea, Fault>
     ensures { result ≡ area_from number }
 {
     let [0, 0, 0, a, b, c, d, e] = number.to_be_bytes() else {
-        return Err(fault(FaultKind::Contents));
+        return Err(FaultKind::Contents.at(0));
     };
     Ok(LocationArea {
         octets: [a, b, c, d, e],
@@ -128,59 +120,59 @@ impl Row {
         Ok(Message::LuAccept { imsi, new_area })
     }
 
-    // A message of this type.
-    fn body(&self, type_octet: u8) -> Result<Message, Fault>
-        ensures { result ≡ body_from (fields_of self.now) type_octet }
+    // What a message of this type says.
+    fn body(&self, kind: MessageType) -> Result<Message, Fault>
+        ensures { result ≡ body_from (fields_of self.now) (octet_of kind) }
     {
-        match type_octet {
-            PAGING => self.paging(),
-            PAGING_FAILURE => {
+        match kind {
+            MessageType::Paging => self.paging(),
+            MessageType::PagingFailure => {
                 let (imsi, cause) = self.imsi_and()?;
                 Ok(Message::PagingFailure { imsi, cause })
             }
-            MOBILE_STATUS => {
+            MessageType::MobileStatus => {
                 let (imsi, cause) = self.imsi_and()?;
                 Ok(Message::MobileStatus { imsi, cause })
             }
-            LU_REQUEST => self.lu_request(),
-            LU_ACCEPT => self.lu_accept(),
-            LU_REJECT => {
+            MessageType::LuRequest => self.lu_request(),
+            MessageType::LuAccept => self.lu_accept(),
+            MessageType::LuReject => {
                 let (imsi, cause) = self.imsi_and()?;
                 Ok(Message::LuReject { imsi, cause })
             }
-            RESET => {
+            MessageType::Reset => {
                 let entity = code(self.code)?;
                 Ok(Message::Reset { entity })
             }
-            RESET_ACKNOWLEDGE => {
+            MessageType::ResetAcknowledge => {
                 let entity = code(self.code)?;
                 Ok(Message::ResetAcknowledge { entity })
             }
-            GPRS_DETACH_INDICATION => {
+            MessageType::GprsDetachIndication => {
                 let (imsi, detach) = self.imsi_and()?;
                 Ok(Message::GprsDetachIndication { imsi, detach })
             }
-            GPRS_DETACH_ACKNOWLEDGE => {
+            MessageType::GprsDetachAcknowledge => {
                 let (imsi, detach) = self.imsi_and()?;
                 Ok(Message::GprsDetachAcknowledge { imsi, detach })
             }
-            IMSI_DETACH_INDICATION => {
+            MessageType::ImsiDetachIndication => {
                 let (imsi, detach) = self.imsi_and()?;
                 Ok(Message::ImsiDetachIndication { imsi, detach })
             }
-            IMSI_DETACH_ACKNOWLEDGE => {
+            MessageType::ImsiDetachAcknowledge => {
                 let (imsi, detach) = self.imsi_and()?;
                 Ok(Message::ImsiDetachAcknowledge { imsi, detach })
             }
-            _ => Err(fault(FaultKind::MessageType)),
         }
     }
 
     fn message(&self) -> Result<Message, Fault>
         ensures { result ≡ message_from (fields_of self.now) }
     {
-        let type_octet = fitted(self.kind, FaultKind::MessageType)?;
-        self.body(type_octet)
+        let octet = fitted::<u8>(self.kind, FaultKind::MessageType)?;
+        let kind = MessageType::try_from(octet).or(Err(FaultKind::MessageType.at(0)))?;
+        self.body(kind)
     }
 }
 

@@ -1,6 +1,6 @@
 // What can be wrong with octets, or with what is to be written.
 ghost use Rattle.std.specs.Prelude.{◌≡◌};
-ghost use Rattle.elements.specs.Faults.{fault_number, fault_layer, wrong};
+ghost use Rattle.elements.specs.Faults.{fault_number, fault_layer};
 
 // The part of the format that a fault belongs to.
 #[derive(Clone, Copy, Debug, PartialEq, Eq, Hash)]
@@ -66,11 +66,4 @@ impl FaultKind {
 pub struct Fault {
     pub kind: FaultKind,
     pub place: usize,
-}
-
-// A refusal of this kind at this place.
-pub fn refused<X>(kind: FaultKind, place: usize) -> Result<X, Fault>
-    ensures { result ≡ wrong kind place }
-{
-    Err(kind.at(place))
 }

@@ -1,6 +1,6 @@
 // Node numbers: one plain kind for frames, and one kind each for SGSN and VLR.
 ghost use Rattle.std.specs.Prelude.{◌≡◌, ◌≤◌};
-ghost use Rattle.elements.specs.Nodes.{lawful_node, same_node};
+ghost use Rattle.elements.specs.Nodes.{lawful_node};
 
 // A node's number as a frame carries it. Any number can be held; `is_lawful` says whether a node can have it.
 #[derive(Clone, Copy, Debug, PartialEq, Eq, Hash, PartialOrd, Ord)]
@@ -13,12 +13,6 @@ impl NodeNumber {
         ensures { result ≡ lawful_node self }
     {
         1 <= self.number && self.number <= 254
-    }
-
-    pub fn is(self, other: NodeNumber) -> bool
-        ensures { result ≡ same_node self other }
-    {
-        self == other
     }
 }
 

@@ -35,11 +35,11 @@ fn header(octets: &[u8]) -> Result<Header, Fault>
     if source == destination {
         return Err(FaultKind::Nodes.at(0));
     }
-    let stamp = number_at(octets, 2).ok_or(FaultKind::FrameSize.at(size))?;
+    let stamp = number_at(octets, 2).unwrap();
     if stamp == 0 {
         return Err(FaultKind::Stamp.at(2));
     }
-    let answers = number_at(octets, 6).ok_or(FaultKind::FrameSize.at(size))?;
+    let answers = number_at(octets, 6).unwrap();
     Ok(Header {
         source,
         destination,

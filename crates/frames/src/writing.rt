@@ -12,7 +12,7 @@ use messages::writing::write_message_in_frame;
 fn may_go(source: NodeNumber, destination: NodeNumber) -> bool
     ensures { result ≡ lawful_nodes source destination }
 {
-    source.is_lawful() && destination.is_lawful() && !source.is(destination)
+    source.is_lawful() && destination.is_lawful() && source != destination
 }
 
 // Puts nodes and stamps at the front of the buffer.
@@ -33,16 +33,10 @@ pub fn write_frame(frame: Frame, buffer: &mut [u8]) -> Result<usize, Fault>
     ensures back { ReadBack frame buffer.new result }
 {
     if !may_go(frame.source, frame.destination) {
-        return Err(Fault {
-            kind: FaultKind::Nodes,
-            place: 0,
-        });
+        return Err(FaultKind::Nodes.at(0));
     }
     if frame.stamp == 0 {
-        return Err(Fault {
-            kind: FaultKind::Stamp,
-            place: 0,
-        });
+        return Err(FaultKind::Stamp.at(0));
     }
     let end = write_message_in_frame(frame.message, buffer)?;
     put_header(frame, buffer);

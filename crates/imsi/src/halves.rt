@@ -1,9 +1,9 @@
 // Half octets: the low half of each octet stands before its high half.
 ghost use Rattle.std.specs.Prelude.{◌≡◌, ◌*◌, ◌<◌, ◌≤◌, length, take, drop, MatchOption};
-ghost use Rattle.imsi.specs.Halves.{halves, paired};
-ghost use Rattle.imsi.specs.Spelling.{valued, filled};
+ghost use Rattle.imsi.specs.Halves.{halves};
+ghost use Rattle.imsi.specs.Spelling.{valued, imsi_octets};
 
-use crate::Imsi;
+use arrayvec::ArrayVec;
 
 // A half octet above this is no digit.
 const LAST_DIGIT: u8 = 9;
@@ -37,26 +37,29 @@ pub(crate) fn value_in(octets: &[u8], count: usize) -> Option<u64>
     Some(value * 10 + last as u64)
 }
 
-// The octets that spell as many of the last digits of the value as `imsi` has, FF in each place after them.
-// They are made from the last one back, two digits at a time: only the first octet, which has the marker, and
-// the last one of an even count, which has the filler, have one digit.
-pub(crate) fn octets_from(imsi: Imsi) -> [u8; 8]
-    requires some { 1 ≤ imsi.digits }
-    requires few { imsi.digits ≤ 15 }
-    ensures { result ≡ paired (filled imsi.digits imsi.value) }
+// The octets that spell the last `digits` digits of `value`. They are made from the last one back, two digits
+// at a time: only the last one of an even count, which has the filler, and the first, which has the marker,
+// have one digit.
+pub(crate) fn octets_from(digits: u8, value: u64) -> ArrayVec<u8, 8>
+    requires some { 1 ≤ digits }
+    requires few { digits ≤ 15 }
+    ensures { result.items ≡ imsi_octets digits value }
 {
-    let mut octets = [255u8; 8];
-    let mut left = imsi.value;
-    if imsi.digits % 2 == 0 {
-        octets[imsi.digits as usize / 2] = 240 + (left % 10) as u8;
+    let mut back: ArrayVec<u8, 8> = ArrayVec::new();
+    let mut left = value;
+    if digits % 2 == 0 {
+        back.push(240 + (left % 10) as u8);
         left /= 10;
     }
-    // By index: what is written through `iter_mut().rev()` is not known once its loop is over.
-    for i in (1..(imsi.digits as usize + 1) / 2).rev() {
+    for _ in 0..(digits - 1) / 2 {
         let pair = (left % 100) as u8;
-        octets[i] = pair / 10 + 16 * (pair % 10);
+        back.push(pair / 10 + 16 * (pair % 10));
         left /= 100;
     }
-    octets[0] = 1 + 8 * (imsi.digits % 2) + 16 * (left % 10) as u8;
+    back.push(1 + 8 * (digits % 2) + 16 * (left % 10) as u8);
+    let mut octets = ArrayVec::new();
+    for octet in back.iter().rev() {
+        octets.push(*octet);
+    }
     octets
 }

@@ -4,25 +4,15 @@ ghost use Rattle.imsi.specs.Written.{written_of, ReadBack};
 
 use crate::Imsi;
 use crate::halves::octets_from;
-
-// The octets that spell an IMSI are the first `count`; every octet after them is FF.
-// An array with its count, not an ArrayVec, with which the writer takes a twentieth to a tenth more time.
-#[derive(Clone, Copy)]
-pub struct ImsiOctets {
-    pub octets: [u8; 8],
-    pub count: usize,
-}
+use arrayvec::ArrayVec;
 
 // The octets that spell `imsi`, or nothing where it is unlawful.
-pub fn octets_of(imsi: Imsi) -> Option<ImsiOctets>
+pub fn octets_of(imsi: Imsi) -> Option<ArrayVec<u8, 8>>
     ensures value { result ≡ written_of imsi }
     ensures back { ReadBack imsi result }
 {
     if !imsi.is_lawful() {
         return None;
     }
-    Some(ImsiOctets {
-        octets: octets_from(imsi),
-        count: imsi.digits as usize / 2 + 1,
-    })
+    Some(octets_from(imsi.digits, imsi.value))
 }

@@ -12,31 +12,6 @@ use elements::code::{
 use elements::node::NodeNumber;
 use imsi::Imsi;
 
-// The type octets of the messages.
-pub const PAGING: u8 = 0x00;
-
-pub const PAGING_FAILURE: u8 = 0x01;
-
-pub const MOBILE_STATUS: u8 = 0x02;
-
-pub const LU_REQUEST: u8 = 0x06;
-
-pub const LU_ACCEPT: u8 = 0x07;
-
-pub const LU_REJECT: u8 = 0x08;
-
-pub const RESET: u8 = 0x09;
-
-pub const RESET_ACKNOWLEDGE: u8 = 0x0A;
-
-pub const GPRS_DETACH_INDICATION: u8 = 0x0E;
-
-pub const GPRS_DETACH_ACKNOWLEDGE: u8 = 0x0F;
-
-pub const IMSI_DETACH_INDICATION: u8 = 0x11;
-
-pub const IMSI_DETACH_ACKNOWLEDGE: u8 = 0x12;
-
 // A message. An absent TMSI or channel differs from zero. LU is a location update.
 #[derive(Clone, Copy, PartialEq, Eq)]
 pub enum Message {

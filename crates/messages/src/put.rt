@@ -48,7 +48,7 @@ impl Writer<'_> {
     {
         // A lawful IMSI has octets.
         let spelt = octets_of(imsi).unwrap();
-        self.element(Element::Imsi, &spelt.octets[..spelt.count]);
+        self.element(Element::Imsi, &spelt);
     }
 
     // The octet that stands for `value`.

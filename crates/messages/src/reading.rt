@@ -102,40 +102,44 @@ fn message(mut from: Reader) -> Result<Message, Fault>
 {
     match message_type(&mut from)? {
         MessageType::Paging => paging(from),
-        MessageType::PagingFailure => imsi_and(from, Element::Cause).map(|(
-            imsi,
-            cause,
-        )| Message::PagingFailure { imsi, cause }),
-        MessageType::MobileStatus => imsi_and(from, Element::Cause).map(|(
-            imsi,
-            cause,
-        )| Message::MobileStatus { imsi, cause }),
+        MessageType::PagingFailure => {
+            let (imsi, cause) = imsi_and(from, Element::Cause)?;
+            Ok(Message::PagingFailure { imsi, cause })
+        }
+        MessageType::MobileStatus => {
+            let (imsi, cause) = imsi_and(from, Element::Cause)?;
+            Ok(Message::MobileStatus { imsi, cause })
+        }
         MessageType::LuRequest => lu_request(from),
         MessageType::LuAccept => lu_accept(from),
-        MessageType::LuReject => imsi_and(from, Element::RejectCause).map(|(
-            imsi,
-            cause,
-        )| Message::LuReject { imsi, cause }),
-        MessageType::Reset => entity(from).map(|entity| Message::Reset { entity }),
-        MessageType::ResetAcknowledge => {
-            entity(from).map(|entity| Message::ResetAcknowledge { entity })
+        MessageType::LuReject => {
+            let (imsi, cause) = imsi_and(from, Element::RejectCause)?;
+            Ok(Message::LuReject { imsi, cause })
         }
-        MessageType::GprsDetachIndication => imsi_and(from, Element::GprsDetachType).map(|(
-            imsi,
-            detach,
-        )| Message::GprsDetachIndication { imsi, detach }),
-        MessageType::GprsDetachAcknowledge => imsi_and(from, Element::GprsDetachType).map(|(
-            imsi,
-            detach,
-        )| Message::GprsDetachAcknowledge { imsi, detach }),
-        MessageType::ImsiDetachIndication => imsi_and(from, Element::ImsiDetachType).map(|(
-            imsi,
-            detach,
-        )| Message::ImsiDetachIndication { imsi, detach }),
-        MessageType::ImsiDetachAcknowledge => imsi_and(from, Element::ImsiDetachType).map(|(
-            imsi,
-            detach,
-        )| Message::ImsiDetachAcknowledge { imsi, detach }),
+        MessageType::Reset => {
+            let entity = entity(from)?;
+            Ok(Message::Reset { entity })
+        }
+        MessageType::ResetAcknowledge => {
+            let entity = entity(from)?;
+            Ok(Message::ResetAcknowledge { entity })
+        }
+        MessageType::GprsDetachIndication => {
+            let (imsi, detach) = imsi_and(from, Element::GprsDetachType)?;
+            Ok(Message::GprsDetachIndication { imsi, detach })
+        }
+        MessageType::GprsDetachAcknowledge => {
+            let (imsi, detach) = imsi_and(from, Element::GprsDetachType)?;
+            Ok(Message::GprsDetachAcknowledge { imsi, detach })
+        }
+        MessageType::ImsiDetachIndication => {
+            let (imsi, detach) = imsi_and(from, Element::ImsiDetachType)?;
+            Ok(Message::ImsiDetachIndication { imsi, detach })
+        }
+        MessageType::ImsiDetachAcknowledge => {
+            let (imsi, detach) = imsi_and(from, Element::ImsiDetachType)?;
+            Ok(Message::ImsiDetachAcknowledge { imsi, detach })
+        }
     }
 }
 

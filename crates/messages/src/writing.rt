@@ -89,16 +89,10 @@ fn write_at(message: Message, buffer: &mut [u8], at: usize) -> Result<usize, Fau
     ensures back { ReadBack at message buffer.new result }
 {
     if !message.is_lawful() {
-        return Err(Fault {
-            kind: FaultKind::Contents,
-            place: 0,
-        });
+        return Err(FaultKind::Contents.at(0));
     }
     if buffer.len() < BUFFER_SIZE {
-        return Err(Fault {
-            kind: FaultKind::Buffer,
-            place: 0,
-        });
+        return Err(FaultKind::Buffer.at(0));
     }
     let mut to = Writer { buffer, at };
     put_message(&mut to, message);
