@@ -13,9 +13,10 @@ use words::in_words::InWords;
 // The input is read as octets, since a line that is no text is a bad line too, and not the end.
 fn main(rt: HostRuntime) -> io::Result<()> {
     let mut tally = Tally::new();
-    let lines = BufReader::new(rt.alloc(), rt.stdin())?.split(rt.alloc(), b'\n');
-    for (number, line) in (1..u64::MAX).zip(lines) {
+    let mut number: u64 = 0;
+    for line in BufReader::new(rt.alloc(), rt.stdin())?.split(rt.alloc(), b'\n') {
         let line = line?;
+        number = number.saturating_add(1);
         let Some(outcome) = outcome_of(&line) else {
             continue;
         };

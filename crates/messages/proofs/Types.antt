@@ -12,7 +12,8 @@ use Rattle.messages.specs.declared.kind.UnknownType.{UnknownType}
 use Rattle.messages.specs.Kinds.{octet_of, TypeOf}
 use Rattle.messages.specs.Reading.{body_at, message_at}
 
-another : {A : Type 0} (k : MessageType) (n : ℕ) (x y : A) → octet_of k ≢ n → cond (eqb n (octet_of k)) x y ≡ y
+-- a test for the octet of another kind fails
+pub another : {A : Type 0} (k : MessageType) (n : ℕ) (x y : A) → octet_of k ≢ n → cond (eqb n (octet_of k)) x y ≡ y
 another k n x y ne = cond-false _ _ _ (ne_eqb n (octet_of k) (λ e. ne (sym e)))
 
 -- an octet that no kind has begins no message
