@@ -2,7 +2,7 @@
 use elements::node::NodeNumber;
 
 // From a node to a node.
-#[derive(Clone, Copy, PartialEq, Eq)]
+#[derive(Clone, Copy, Debug, PartialEq, Eq)]
 pub struct Route {
     pub source: NodeNumber,
     pub destination: NodeNumber,

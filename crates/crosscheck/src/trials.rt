@@ -148,8 +148,8 @@ impl Trials<'_> {
             put(&mut changed, 1, to);
             self.compare(Form::Frame, changed.as_slice())?;
         }
-        for place in 2..6 {
-            put(&mut changed, place, 0);
+        for octet in changed.iter_mut().skip(2).take(4) {
+            *octet = 0;
         }
         self.compare(Form::Frame, changed.as_slice())
     }

@@ -8,13 +8,14 @@ ghost use Rattle.decode.specs.Outcomes.{is_comment, read_line, outcome_in};
 use elements::fault::Fault;
 use frames::frame::Frame;
 use frames::reading::read_frame;
+use std::error::Error;
 use std::fmt;
 use words::hexadecimal::octets_in_line;
 use words::in_words::InWords;
 use words::line::BadLine;
 
 // Why a line gives no frame: its octets have a fault, or it does not write octets.
-#[derive(Clone, Copy)]
+#[derive(Clone, Copy, Debug, PartialEq, Eq)]
 pub enum Refusal {
     Fault(Fault),
     Line(BadLine),
@@ -44,6 +45,8 @@ impl fmt::Display for Refusal {
         }
     }
 }
+
+impl Error for Refusal {}
 
 // A line that begins with # is a comment.
 fn is_comment(line: &[u8]) -> bool

@@ -1,7 +1,7 @@
 -- Looking a record up by IMSI after each change.
 use Rattle.std.proofs.Common.{◌≡◌, ℕ, zero, suc, Bool, true, false, cond, ltb, List, [], ◌∷◌, map, get_or, set, Some, None, Ok, Err, Option, sym, refl, ap, ◌∙◌, ⊎_elim, arith}
 use Rattle.std.specs.List.{insert}
-use Rattle.std.proofs.lemmas.Bool.{cases_Bool, lt-ltb, ltb-true}
+use Rattle.std.proofs.lemmas.Bool.{cases_Bool, lt-ltb, ltb-true, true≢false}
 use Rattle.std.proofs.lemmas.Bool.Decides.{nat_tests}
 use Rattle.imsi.specs.declared.Imsi.{Imsi}
 use Rattle.std.specs.Option.{option_map}
@@ -26,9 +26,6 @@ same_ne m n ne = ⊎_elim (λ t. absurd (ne (same_true m n t))) (λ f. f) (cases
 
 cond_is : {X : Type 0} (b c : Bool) (x y : X) → b ≡ c → cond b x y ≡ cond c x y
 cond_is b c x y e = ap (λ d. cond d x y) e
-
-not_both : true ≡ false → ⊥
-not_both e = let z : ◌≡◌ {A = ℕ} 0 1 = cc in omega arith
 
 -- both tests of one step
 step : {X : Type 0} (a b c d : Bool) (x y z : X) → a ≡ c → b ≡ d → cond a x (cond b y z) ≡ cond c x (cond d y z)
@@ -56,17 +53,6 @@ module _ {R : Type 0} (w : R → Imsi) where
       let p = s.1 zero x (omega arith) in
       step (same m (w x)) (ltb (rank_of m) (rank_of (w x))) false false (Some x) None (at w xs m) p.0 p.1
       ∙ at_missing xs m i (omega (arith, s.0), (λ k c h. s.1 (suc k) c (omega arith)), (λ c h. s.2 c (omega arith)))
-
-  -- the record found is of the IMSI
-  pub at-whose : (xs : List R) (m : Imsi) (r : R) → at w xs m ≡ Some r → w r ≡ m
-  at-whose [] m r e = let z : ◌≡◌ {A = ℕ} 0 1 = cc in absurd (omega arith)
-  at-whose (x ∷ xs) m r e = ⊎_elim
-      (λ t. let q : ◌≡◌ {A = Option R} (Some x) (Some r) = sym (cond_is (same m (w x)) true (Some x) (cond (ltb (rank_of m) (rank_of (w x))) None (at w xs m)) t) ∙ e in let p : x ≡ r = cc in ap w (sym p) ∙ sym (same_true m (w x) t))
-      (λ f. ⊎_elim
-      (λ t. let q : ◌≡◌ {A = Option R} None (Some r) = sym (step (same m (w x)) (ltb (rank_of m) (rank_of (w x))) false true (Some x) None (at w xs m) f t) ∙ e in let z : ◌≡◌ {A = ℕ} 0 1 = cc in absurd (omega arith))
-      (λ g. at-whose xs m r (sym (step (same m (w x)) (ltb (rank_of m) (rank_of (w x))) false false (Some x) None (at w xs m) f g) ∙ e))
-      (cases_Bool (ltb (rank_of m) (rank_of (w x)))))
-      (cases_Bool (same m (w x)))
 
   pub stored_set : (xs : List R) (r : R) (i : ℕ) → Sought w (w r) xs (Ok i) → set xs i r ≡ stored w r xs
   stored_set [] r i s = absurd (omega (arith, s.0))
@@ -140,7 +126,7 @@ module _ {R : Type 0} (w : R → Imsi) where
   pub at-stored : (r : R) (xs : List R) (m : Imsi) → at w (stored w r xs) m ≡ cond (same m (w r)) (Some r) (at w xs m)
   at-stored r xs m = ⊎_elim
       (λ t. ap (at w (stored w r xs)) (same_true m (w r) t) ∙ at-stored_same r xs ∙ sym (cond_is (same m (w r)) true (Some r) (at w xs m) t))
-      (λ f. at-stored_other r xs m (λ e. not_both (sym (same_eq m (w r) e) ∙ f)) ∙ sym (cond_is (same m (w r)) false (Some r) (at w xs m) f))
+      (λ f. at-stored_other r xs m (λ e. true≢false (sym (same_eq m (w r) e) ∙ f)) ∙ sym (cond_is (same m (w r)) false (Some r) (at w xs m) f))
       (cases_Bool (same m (w r)))
 
   -- the law of a change of every record

@@ -3,8 +3,9 @@ use elements::node::NodeNumber;
 use messages::message::Message;
 
 // Source and destination are plain node numbers, since either end may be an SGSN or a VLR.
-// `answers` is the stamp of the frame that this one answers, 0 for none.
-#[derive(Clone, Copy, PartialEq, Eq)]
+// `answers` is the stamp of the frame that this one answers, 0 for none: the number that the octets have, where an Option
+// could hold the 0 in two ways.
+#[derive(Clone, Copy, Debug, PartialEq, Eq)]
 pub struct Frame {
     pub source: NodeNumber,
     pub destination: NodeNumber,

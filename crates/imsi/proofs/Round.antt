@@ -59,7 +59,7 @@ read_written k v law =
 
 -- read, then written
 uncounted : (n k v : ℕ) (o : Option ℕ) → counted n o ≡ Some (k, v) → (n ≡ k) × (o ≡ Some v)
-uncounted n k v None e = let y : ◌≡◌ {A = ℕ} 0 1 = cc in absurd (omega arith)
+uncounted n k v None e = absurd (none-some (k, v) e)
 uncounted n k v (Some w) e = let p : ◌≡◌ {A = ℕ × ℕ} (n, w) (k, v) = cc in (ap (λ (t : ℕ × ℕ). t.0) p, ap (λ (t : ℕ × ℕ). Some t.1) p)
 
 tens_pos : (k : ℕ) → 0 < 10 ^ k

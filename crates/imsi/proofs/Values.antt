@@ -2,6 +2,7 @@
 use Rattle.std.proofs.Common.{◌≡◌, ℕ, zero, suc, ◌+◌, ◌*◌, ◌/◌, ◌%◌, ◌^◌, ◌<◌, cond, ltb, List, [], ◌∷◌, ◌++◌, length, get_or, take, drop, Some, None, Option, sym, refl, ap, ◌∙◌, subst, ⊎_elim, pow-suc, add-one, arith}
 use native.Mathlib.Nat.{div-div-eq-div-mul}
 use Rattle.std.proofs.lemmas.List.{length-take, length-drop, get_or-take, get_or-drop, at_drop_more}
+use Rattle.std.proofs.lemmas.Option.{none-some}
 use Rattle.std.proofs.lemmas.Bool.{cond-true, cond-false, lt-ltb, ltb-true, cases_Bool}
 use Rattle.imsi.specs.Spelling.{valued, digits}
 
@@ -15,15 +16,12 @@ step hs n j v l m =
     let there : get_or (take n (drop 1 hs)) j 0 ≡ get_or hs (j + 1) 0 = get_or-take n (drop 1 hs) j 0 l ∙ get_or-drop 1 hs j 0 ∙ ap (λ k. get_or hs k 0) (omega arith) in
     at_drop_more (valued v) (take n (drop 1 hs)) j 0 long ∙ ap (λ d. cond (ltb d 10) (valued (v * 10 + d) (drop (j + 1) (take n (drop 1 hs)))) None) there
 
-no_digit : {X : Type 0} (v : ℕ) → ◌≡◌ {A = Option ℕ} None (Some v) → X
-no_digit v e = let z : ◌≡◌ {A = ℕ} 0 1 = cc in absurd (omega arith)
-
 valued_push : (acc n d : ℕ) (xs : List ℕ) → valued acc xs ≡ Some n → d < 10 → valued acc (xs ++ d ∷ []) ≡ Some (n * 10 + d)
 valued_push acc n d [] e h = let same : acc ≡ n = cc in cond-true _ _ _ (lt-ltb d 10 h) ∙ ap (λ m. Some (m * 10 + d)) same
 valued_push acc n d (x ∷ xs) e h =
     ⊎_elim
     (λ t. cond-true _ _ _ t ∙ valued_push (acc * 10 + x) n d xs (sym (cond-true _ _ _ t) ∙ e) h)
-    (λ f. no_digit n (sym (cond-false _ _ _ f) ∙ e))
+    (λ f. absurd (none-some n (sym (cond-false _ _ _ f) ∙ e)))
     (cases_Bool (ltb x 10))
 
 pub valued-digits : (k v : ℕ) → v < 10 ^ k → valued 0 (digits k v) ≡ Some v
@@ -52,5 +50,5 @@ digits-valued (d ∷ ds) acc v e =
     let first : v / 10 ^ length ds % 10 ≡ d = omega arith in
     let up : v / 10 ^ suc (length ds) ≡ v / 10 ^ length ds / 10 = ap (λ m. v / m) (pow-suc 10 (length ds)) ∙ sym (div-div-eq-div-mul v (10 ^ length ds) 10) in
     (digits_first (length ds) v ∙ (λ i. first i ∷ ih.0 i), omega arith))
-    (λ f. no_digit v (sym (cond-false _ _ _ f) ∙ e))
+    (λ f. absurd (none-some v (sym (cond-false _ _ _ f) ∙ e)))
     (cases_Bool (ltb d 10))

@@ -7,6 +7,7 @@ use carrier::route::Route;
 use elements::node::NodeNumber;
 
 // The first frame of highest stamp put for a pair, and the stamp last given of that pair, 0 for none.
+// 0 and not an Option: it is below every stamp, so that one comparison serves.
 // The frame waits while its stamp is the higher: an emptied slot keeps the frame given, and so its pair.
 #[derive(Clone, Copy)]
 pub struct Slot {
@@ -41,11 +42,18 @@ impl Slot {
         self.frame.route() == route
     }
 
+    // Does its frame wait, or was it given?
+    pub fn waits(&self) -> bool
+        ensures { result ≡ waits self.now }
+    {
+        self.given < self.frame.stamp()
+    }
+
     // Does its frame wait for this node?
     pub(crate) fn waits_for(&self, node: NodeNumber) -> bool
         ensures { result ≡ waits_for node self.now }
     {
-        self.frame.destination() == node && self.given < self.frame.stamp()
+        self.frame.destination() == node && self.waits()
     }
 
     // With this frame of its pair, if its stamp is higher. What was given stays here until then, so a frame whose

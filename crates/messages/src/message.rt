@@ -13,7 +13,7 @@ use elements::node::NodeNumber;
 use imsi::Imsi;
 
 // A message. An absent TMSI or channel differs from zero. LU is a location update.
-#[derive(Clone, Copy, PartialEq, Eq)]
+#[derive(Clone, Copy, Debug, PartialEq, Eq)]
 pub enum Message {
     Paging {
         imsi: Imsi,

@@ -1,10 +1,11 @@
 // Why nothing is done that a line asks for.
 use std::alloc::AllocError;
+use std::error::Error;
 use std::{fmt, io};
 use words::line::BadLine;
 
 // What is wrong with a line.
-#[derive(Clone, Copy)]
+#[derive(Clone, Copy, Debug, PartialEq, Eq)]
 pub enum Mistake {
     Verb,
     Carrier,
@@ -38,6 +39,8 @@ impl fmt::Display for Mistake {
         })
     }
 }
+
+impl Error for Mistake {}
 
 // A mistake is shown, and the next line is read; input, output and memory that fail end the program.
 #[derive(Drop)]

@@ -5,7 +5,6 @@ use carrier::datagram::Datagram;
 use elements::node::NodeNumber;
 use gate::carrying::Gate;
 use mailbox::mailbox::Mailbox;
-use mailbox::slot::Slot;
 use nowhere::Nowhere;
 use queue::queue::Queue;
 use slip::carrying::Slip;
@@ -24,16 +23,12 @@ pub(crate) enum Relay {
 
 // The frames that wait in a mailbox. A slot keeps its frame when it is given, and then the frame does not wait.
 fn held(heap: Global, mailbox: &Mailbox) -> Result<Vec<Datagram>, AllocError> {
-    mailbox.slots[0..mailbox.count]
+    mailbox
+        .slots
         .iter()
-        .filter(|slot| waits(slot))
+        .filter(|slot| slot.waits())
         .map(|slot| slot.frame)
         .collect(heap)
-}
-
-fn waits(slot: &Slot) -> bool {
-    let octets = slot.frame.as_slice();
-    slot.given < u32::from_be_bytes([octets[2], octets[3], octets[4], octets[5]])
 }
 
 impl Relay {

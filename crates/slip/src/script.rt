@@ -7,7 +7,7 @@ use std::alloc::{AllocError, Global};
 use std::vec;
 
 // What one take does.
-#[derive(Clone, Copy, PartialEq)]
+#[derive(Clone, Copy, Debug, PartialEq, Eq)]
 pub enum Mode {
     GiveOldest,
     GiveNewest,

@@ -15,7 +15,7 @@ use imsi::Imsi;
 use messages::message::Message;
 
 // What a delivery brings about. A page order tells the radio side to page the mobile.
-#[derive(Clone, Copy, PartialEq, Eq)]
+#[derive(Clone, Copy, Debug, PartialEq, Eq)]
 pub enum Delivery {
     Nothing,
     PageOrder {
@@ -27,7 +27,7 @@ pub enum Delivery {
 }
 
 // Why a delivery brings nothing about: the end made no call, or what came is no frame.
-#[derive(Clone, Copy, PartialEq)]
+#[derive(Clone, Copy, Debug, PartialEq, Eq)]
 pub enum Refusal {
     Denied(Denial),
     Faulty(Fault),

@@ -13,7 +13,7 @@ use messages::message::Message;
 pub const WORN_ABOVE: u32 = 4_294_965_000;
 
 // A message to a node.
-#[derive(Clone, Copy, PartialEq)]
+#[derive(Clone, Copy, Debug, PartialEq, Eq)]
 pub struct Outgoing {
     pub to: NodeNumber,
     // the stamp of the frame that this one answers, 0 for none, as frames have it
@@ -22,7 +22,7 @@ pub struct Outgoing {
 }
 
 // An end as it sends: its number, and the stamp that it sent last. Never copied, so that no stamp is taken twice.
-#[derive(Drop, PartialEq, Eq)]
+#[derive(Debug, Drop, PartialEq, Eq)]
 pub struct Sender {
     pub own: NodeNumber,
     pub last: u32,
