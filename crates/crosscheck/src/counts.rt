@@ -1,12 +1,5 @@
 // How often each of a few things came up.
-ghost use Rattle.std.specs.Prelude.{◌<◌};
-
-// A count that is full stays as it is.
-pub(crate) fn count(counter: &mut u64)
-    ensures { 0 < counter.new }
-{
-    *counter = counter.saturating_add(1);
-}
+use words::counting::count;
 
 // Each thing beside its count.
 #[derive(Drop)]

@@ -3,12 +3,13 @@ ghost use Rattle.std.specs.Prelude.{◌≡◌, ◌<◌, true, is_ok};
 
 use crate::answer::{Answer, Form, Hexadecimal, Shown};
 use crate::compare::{Accepted, ask_library};
-use crate::counts::{Counts, count};
+use crate::counts::Counts;
 use crate::reader::read;
 use crate::rule::Rule;
 use crate::table::{MessageType, TYPES};
 use anyhow::anyhow;
 use std::io;
+use words::counting::count;
 
 // Only so many differences are shown.
 const SHOWN: u64 = 20;

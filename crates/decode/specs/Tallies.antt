@@ -1,14 +1,11 @@
 -- How lines are counted.
-use Rattle.std.specs.Prelude.{ℕ, ◌+◌, ◌-◌, ◌^◌, min, List, Ok, Err, Result, replicate, slice_index, slice_set}
+use Rattle.std.specs.Prelude.{ℕ, ◌-◌, List, Ok, Err, Result, replicate, slice_index, slice_set}
 use Rattle.elements.specs.Faults.{fault_number}
 use Rattle.frames.specs.declared.frame.Frame.{Frame}
 use Rattle.decode.specs.declared.outcome.Refusal.{Refusal}
 use Rattle.decode.specs.declared.outcome.Refusal.TheVariants as refusal
 use Rattle.decode.specs.declared.tally.Tally.{Tally}
-
--- one more, up to the largest number that can be held
-abbrev pub one_more : ℕ → ℕ
-one_more n = min (n + 1) (2 ^ 64 - 1)
+use Rattle.words.specs.Counting.{one_more}
 
 -- one more at a place of a list
 abbrev pub one_more_at : List ℕ → ℕ → List ℕ

@@ -1,10 +1,11 @@
 // How many lines there were of each outcome.
 ghost use Rattle.std.specs.Prelude.{◌≡◌};
-ghost use Rattle.decode.specs.Tallies.{one_more, no_lines, noted};
+ghost use Rattle.decode.specs.Tallies.{no_lines, noted};
 
 use crate::outcome::Refusal;
 use frames::frame::Frame;
 use std::fmt;
+use words::counting::count;
 
 // The number of the first fault.
 const FIRST: u8 = 20;
@@ -29,21 +30,14 @@ impl Tally {
         ensures { self.new ≡ noted self.old outcome }
     {
         match outcome {
-            Ok(_) => raise(&mut self.frames),
+            Ok(_) => count(&mut self.frames),
             Err(Refusal::Fault(fault)) => {
                 let place = (fault.kind.number() - FIRST) as usize;
-                raise(&mut self.faults[place]);
+                count(&mut self.faults[place]);
             }
-            Err(Refusal::Line(_)) => raise(&mut self.bad_lines),
+            Err(Refusal::Line(_)) => count(&mut self.bad_lines),
         }
     }
-}
-
-// A count that is full stays as it is.
-fn raise(count: &mut u64)
-    ensures { count.new ≡ one_more count.old }
-{
-    *count = count.saturating_add(1);
 }
 
 impl fmt::Display for Tally {

@@ -1,12 +1,8 @@
 -- How often each thing came about.
-use Rattle.std.specs.Prelude.{ℕ, ◌+◌, ◌-◌, ◌^◌, min}
 use Rattle.relay.specs.declared.tally.Event.{Event}
 use Rattle.relay.specs.declared.tally.Event.TheVariants.{Put, Given, Nothing, BadLine}
 use Rattle.relay.specs.declared.tally.Tally.{Tally}
-
--- one more, up to the largest number that can be held
-abbrev pub one_more : ℕ → ℕ
-one_more n = min (n + 1) (2 ^ 64 - 1)
+use Rattle.words.specs.Counting.{one_more}
 
 abbrev pub nothing_yet : Tally
 nothing_yet = record { puts = 0; takes = 0; given = 0; nothing = 0; bad_lines = 0 }

@@ -1,8 +1,9 @@
 // How often each thing came about.
 ghost use Rattle.std.specs.Prelude.{◌≡◌};
-ghost use Rattle.relay.specs.Tallies.{nothing_yet, noted, one_more};
+ghost use Rattle.relay.specs.Tallies.{nothing_yet, noted};
 
 use std::fmt;
+use words::counting::count;
 
 #[derive(Clone, Copy, Debug, PartialEq, Eq)]
 pub enum Event {
@@ -20,12 +21,6 @@ pub struct Tally {
     pub given: u64,
     pub nothing: u64,
     pub bad_lines: u64,
-}
-
-fn count(counter: &mut u64)
-    ensures { counter.new ≡ one_more counter.old }
-{
-    *counter = counter.saturating_add(1);
 }
 
 impl Tally {

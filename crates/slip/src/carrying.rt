@@ -25,7 +25,8 @@ pub struct Slip {
     pub script: Script,
 }
 
-// One take of the queue, as the mode says.
+// One take of the queue, as the mode says. A match, since the script says modes by numbers: closures would stand in a
+// table under the same numbers.
 fn take_by(queue: &mut Queue, mode: Mode, node: NodeNumber) -> Option<Datagram>
     ensures answer { carried result ≡ answer_by mode node (frames_of queue.old) }
     ensures left { frames_of queue.new ≡ left_by mode node (frames_of queue.old) }

@@ -1,6 +1,7 @@
-// Text that the programs share: octets in hexadecimal, and frames and faults in words.
+// What the programs share: octets in hexadecimal, frames and faults in words, and how they count.
 #![tactic(auto)]
 
+pub mod counting;
 pub mod element;
 pub mod fault;
 pub mod frame;
