@@ -197,10 +197,7 @@ fn makes<W: FnOnce(&mut [u8]) -> Result<usize, Fault>>(writer: W, octets: &[u8])
     requires { W.IsAlwaysCallable writer }
 {
     let mut buffer = [UNTOUCHED; ROOM];
-    match writer(&mut buffer) {
-        Ok(count) => count == octets.len() && holds(&buffer, octets),
-        Err(_) => false,
-    }
+    writer(&mut buffer).is_ok_and(|count| count == octets.len() && holds(&buffer, octets))
 }
 
 fn ask_for_message(octets: &[u8]) -> Result<Accepted, Refusal> {

@@ -6,6 +6,7 @@ ghost use Rattle.elements.specs.Backs.{cause_back, update_back, class_back, gprs
 use crate::node::NodeNumber;
 
 // What fits one content octet: an octet for each value, and the value, if any, that an octet stands for.
+// Not From and TryFrom, which have a relation for each impl: the law needs a function each way.
 pub trait Coded: Sized {
     ghost octet_of: { Self → ℕ };
 

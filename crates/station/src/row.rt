@@ -12,7 +12,7 @@ const ACKNOWLEDGE_TICKS: u8 = 2;
 // The timer of a RESET that nobody acknowledged yet. Spent repeats do not end recovery: both are 0 then.
 #[derive(Clone, Copy, Debug, PartialEq, Eq)]
 pub struct Recovery {
-    // ticks until the RESET is repeated, 0 when it is not
+    // ticks left until the RESET is repeated; a spent timer stays at 0
     pub ticks: u8,
     // how often it can still be repeated
     pub repeats: u8,
