@@ -66,7 +66,7 @@ impl Trials<'_> {
         Ok(())
     }
 
-    // Each octet replaced by every value that it can have.
+    // Each octet replaced by every value that it can have. Places alone are counted: what stood there does not matter.
     fn replaced_by_all(&mut self, form: Form, octets: &[u8]) -> anyhow::Result<()> {
         let values: Vec<u8> = (0..=255).collect(self.rt.alloc())?;
         for place in 0..octets.len() {
@@ -89,7 +89,7 @@ impl Trials<'_> {
         Ok(())
     }
 
-    // Cut at every length.
+    // Cut at every length. Lengths are counted here, not places of octets.
     fn cut(&mut self, form: Form, octets: &[u8]) -> anyhow::Result<()> {
         for length in 0..octets.len() {
             self.compare(form, &octets[0..length])?;
