@@ -18,6 +18,7 @@ impl fmt::Display for Seen<'_> {
             Err(fault) => {
                 let octets = Hex {
                     octets: self.octets,
+                    between: "",
                 };
                 write!(f, "octets {octets}, {}", InWords(fault))
             }

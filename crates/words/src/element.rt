@@ -28,6 +28,7 @@ impl fmt::Display for InWords<LocationArea> {
     fn fmt<W: fmt::Write>(&self, f: &mut fmt::Formatter<W>) -> fmt::Result {
         let area = Hex {
             octets: &self.0.octets,
+            between: "",
         };
         write!(f, "{area}")
     }

@@ -70,16 +70,21 @@ impl LineOctets {
     }
 }
 
-// Octets as they are written: two digits each, in capitals, with nothing between.
+// Octets as they are written: two digits each, in capitals, with this text between octets.
 #[derive(Clone, Copy)]
 pub struct Hex<'a> {
     pub octets: &'a [u8],
+    pub between: &'a str,
 }
 
 impl fmt::Display for Hex<'_> {
     fn fmt<W: fmt::Write>(&self, f: &mut fmt::Formatter<W>) -> fmt::Result {
-        for octet in self.octets {
-            write!(f, "{octet:02X}")?;
+        let [first, others @ ..] = self.octets else {
+            return Ok(());
+        };
+        write!(f, "{first:02X}")?;
+        for octet in others {
+            write!(f, "{}{octet:02X}", self.between)?;
         }
         Ok(())
     }
