@@ -171,10 +171,10 @@ impl Row {
         ensures { result ≡ message_from (fields_of self.now) }
     {
         let octet = fitted::<u8>(self.kind, FaultKind::MessageType)?;
-        match MessageType::try_from(octet) {
-            Ok(kind) => self.body(kind),
-            Err(_) => Err(FaultKind::MessageType.at(0)),
-        }
+        let Ok(kind) = MessageType::try_from(octet) else {
+            return Err(FaultKind::MessageType.at(0));
+        };
+        self.body(kind)
     }
 }
 

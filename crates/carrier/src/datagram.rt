@@ -5,7 +5,8 @@ use std::error::Error;
 use std::fmt;
 
 // The first `len` of `octets`.
-// An array with its length beside, not an ArrayVec, whose copies are Results: carriers keep a datagram and give it at once.
+// An array with its length beside, not an ArrayVec, whose copies are Results: carriers keep a datagram and give it at
+// once, and copying one must not fail.
 #[derive(Clone, Copy)]
 pub struct Datagram {
     pub octets: [u8; 64],

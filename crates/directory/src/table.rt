@@ -1,5 +1,6 @@
 // Looking up, storing and changing the records in the first places of a slice.
-// A slice and the count of places held, not one type that has both: the ends own the places, in fixed memory.
+// A slice and the count of places held, not one type that has both: its invariant would be that the records rise, and a
+// ghost field cannot cite what a bound says of a record.
 // Each promise supposes that those records rise; whoever holds them keeps that, as each change of them does.
 ghost use Rattle.std.specs.Prelude.{◌≡◌, ◌≤◌, ◌++◌, map, length, take, drop};
 ghost use Rattle.directory.specs.Lookup.{at, Held, Stored, AfterChange};

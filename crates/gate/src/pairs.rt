@@ -14,7 +14,7 @@ pub struct Pair {
     pub stamp: u32,
 }
 
-// A blank, from nobody to nobody.
+// A blank, from nobody to nobody. By hand, since a node has no number by default.
 impl Default for Pair {
     ghost is_default = { λ p. p.stamp ≡ 0 };
 

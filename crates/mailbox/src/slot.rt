@@ -7,7 +7,7 @@ use carrier::route::Route;
 use elements::node::NodeNumber;
 
 // The first frame of highest stamp put for a pair, and the stamp last given of that pair, 0 for none.
-// 0 and not an Option: it is below every stamp, so that one comparison serves.
+// 0 for none, the number that the promise of order has where nothing was given: an Option would be made 0 again there.
 // The frame waits while its stamp is the higher: an emptied slot keeps the frame given, and so its pair.
 #[derive(Clone, Copy)]
 pub struct Slot {

@@ -9,7 +9,8 @@ const REPEATS: u8 = 3;
 // A RESET taken is acknowledged after so many ticks.
 const ACKNOWLEDGE_TICKS: u8 = 2;
 
-// The timer of a RESET that nobody acknowledged yet. Spent repeats do not end recovery: both are 0 then.
+// The timer of a RESET that nobody acknowledged yet. Spent repeats do not end recovery: `repeats` is 0 then, and
+// `ticks` run down to 0.
 #[derive(Clone, Copy, Debug, PartialEq, Eq)]
 pub struct Recovery {
     // ticks left until the RESET is repeated; a spent timer stays at 0
@@ -29,7 +30,7 @@ pub struct Due {
 pub struct Row {
     // from a loss here until its last RESET is acknowledged
     pub recovery: Option<Recovery>,
-    // the stamp of the last RESET sent, which counts after recovery too; none is below all
+    // the stamp of the last RESET sent, which counts after recovery too
     pub reset: Option<u32>,
     pub due: Option<Due>,
 }

@@ -16,12 +16,13 @@ pub const WORN_ABOVE: u32 = 4_294_965_000;
 #[derive(Clone, Copy, Debug, PartialEq, Eq)]
 pub struct Outgoing {
     pub to: NodeNumber,
-    // the stamp of the frame that this one answers, 0 for none, as frames have it
+    // the stamp of the frame that this one answers, 0 for none: the number that goes into the frame
     pub answers: u32,
     pub message: Message,
 }
 
-// An end as it sends: its number, and the stamp that it sent last. Never copied, so that no stamp is taken twice.
+// An end as it sends: its number, and the stamp that it sent last. Not Copy, so that no stamp is taken twice by mistake.
+// Whatever is lent a sender says that its number stays: no type fixes one field of what is lent.
 #[derive(Debug, Drop, PartialEq, Eq)]
 pub struct Sender {
     pub own: NodeNumber,

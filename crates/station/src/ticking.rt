@@ -10,8 +10,8 @@ use carrier::in_order::InOrder;
 use elements::node::NodeNumber;
 use messages::message::Message;
 
-// Sender, carrier and peer stay three parameters: an end sends to several peers over one carrier, so that a struct of
-// the three would be made anew for each row.
+// Sender, carrier and peer stay parameters: the carrier is lent to each end in turn, and an end has several peers, so
+// that a struct of them would be made anew for each call.
 impl Row {
     // Sends the acknowledgement, if this is its tick.
     fn acknowledge<C: InOrder>(self, sender: &mut Sender, carrier: &mut C, peer: NodeNumber)
