@@ -5,13 +5,6 @@ use std::fmt;
 // No message has more than five elements. There is room for one more, so that one too many is seen.
 const ROOM: usize = 6;
 
-// Octets are read as a message alone, or as a frame with a message in it.
-#[derive(Clone, Copy, Debug, PartialEq, Eq)]
-pub(crate) enum Form {
-    Message,
-    Frame,
-}
-
 // The part of the format that a fault belongs to.
 #[derive(Clone, Copy, Debug, PartialEq, Eq)]
 pub(crate) enum Part {

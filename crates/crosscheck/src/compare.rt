@@ -1,7 +1,8 @@
 // The library's answer in plain numbers, and whether it writes what it has read as the same octets.
 ghost use Rattle.std.specs.Prelude.{◌≡◌, ℕ, ◌<◌, ◌≤◌, true, length, slice_index};
 
-use crate::answer::{Answer, Content, Form, Found, Header, Part, Refusal};
+use crate::answer::{Answer, Content, Found, Header, Part, Refusal};
+use crate::sample::{Form, Sample};
 use elements::area::LocationArea;
 use elements::code::{Cause, Class, GprsDetachType, ImsiDetachType, RejectCause, UpdateType};
 use elements::fault::{Fault, Layer};
@@ -229,9 +230,9 @@ fn ask_for_frame(octets: &[u8]) -> Result<Accepted, Refusal> {
 }
 
 // The library's answer.
-pub(crate) fn ask_library(form: Form, octets: &[u8]) -> Result<Accepted, Refusal> {
-    match form {
-        Form::Message => ask_for_message(octets),
-        Form::Frame => ask_for_frame(octets),
+pub(crate) fn ask_library(sample: Sample) -> Result<Accepted, Refusal> {
+    match sample.form {
+        Form::Message => ask_for_message(sample.octets),
+        Form::Frame => ask_for_frame(sample.octets),
     }
 }

@@ -1,7 +1,8 @@
 // The second reader. It shares no function with the library and goes another way: one loop walks the table
 // and takes element after element off the front of what is left.
-use crate::answer::{Answer, Content, Form, Found, Header, Refusal};
+use crate::answer::{Answer, Content, Found, Header, Refusal};
 use crate::rule::Rule;
+use crate::sample::{Form, Sample};
 use crate::table::{Kind, Row, message_type};
 use arrayvec::ArrayVec;
 
@@ -164,12 +165,12 @@ fn frame(octets: &[u8]) -> Result<Answer, Refusal> {
 }
 
 // The second reader's answer.
-pub(crate) fn read(form: Form, octets: &[u8]) -> Result<Answer, Refusal> {
-    match form {
+pub(crate) fn read(sample: Sample) -> Result<Answer, Refusal> {
+    match sample.form {
         Form::Message => Ok(Answer {
             header: None,
-            content: message(octets, 0)?,
+            content: message(sample.octets, 0)?,
         }),
-        Form::Frame => frame(octets),
+        Form::Frame => frame(sample.octets),
     }
 }
