@@ -1,4 +1,5 @@
-// What a reader found, in plain numbers, so that the answers of two readers can be held against each other.
+// What a reader found. Types of its own, not the library's, and plain numbers, so that the answers of two
+// readers that share nothing can be held against each other.
 use arrayvec::ArrayVec;
 use std::fmt;
 
@@ -55,6 +56,7 @@ pub(crate) struct Header {
     pub(crate) source: u8,
     pub(crate) destination: u8,
     pub(crate) stamp: u32,
+    // 0 for none, as the octets have it
     pub(crate) answers: u32,
 }
 
@@ -147,24 +149,5 @@ impl fmt::Display for Shown<'_> {
             Ok(answer) => write!(f, "{answer}"),
             Err(refusal) => write!(f, "{refusal}"),
         }
-    }
-}
-
-// Octets as a person writes them down.
-#[derive(Clone, Copy)]
-pub(crate) struct Hexadecimal<'a> {
-    pub(crate) octets: &'a [u8],
-}
-
-impl fmt::Display for Hexadecimal<'_> {
-    fn fmt<W: fmt::Write>(&self, f: &mut fmt::Formatter<W>) -> fmt::Result {
-        let [first, others @ ..] = self.octets else {
-            return write!(f, "no octets");
-        };
-        write!(f, "{first:02X}")?;
-        for octet in others {
-            write!(f, " {octet:02X}")?;
-        }
-        Ok(())
     }
 }

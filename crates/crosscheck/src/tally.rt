@@ -1,7 +1,7 @@
 // What both readers answered, counted.
 ghost use Rattle.std.specs.Prelude.{◌≡◌, ◌<◌, true, is_ok};
 
-use crate::answer::{Answer, Hexadecimal, Shown};
+use crate::answer::{Answer, Shown};
 use crate::compare::{Accepted, ask_library};
 use crate::counts::Counts;
 use crate::reader::read;
@@ -11,6 +11,7 @@ use crate::table::{MessageType, TYPES};
 use anyhow::anyhow;
 use std::io;
 use words::counting::count;
+use words::hexadecimal::Hex;
 
 // Only so many differences are shown.
 const SHOWN: u64 = 20;
@@ -105,8 +106,15 @@ impl Tally {
         if self.differences > SHOWN {
             return Ok(());
         }
-        let octets = Hexadecimal { octets };
-        println!(rt; "Difference on {octets}")?;
+        if octets.is_empty() {
+            println!(rt; "Difference on no octets")?;
+        } else {
+            let octets = Hex {
+                octets,
+                between: " ",
+            };
+            println!(rt; "Difference on {octets}")?;
+        }
         println!(rt; "    second reader: {second}")?;
         println!(rt; "    library:       {library}")?;
         if second == library {
