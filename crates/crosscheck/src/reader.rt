@@ -86,6 +86,7 @@ fn element<'a>(
         };
     }
     let bad_length = Rule::Length.at(place.saturating_add(1));
+    let bad_contents = Rule::Contents.at(place.saturating_add(2));
     let [identifier, length, behind @ ..] = rest else {
         return Err(bad_length);
     };
@@ -93,9 +94,7 @@ fn element<'a>(
         return Err(bad_length);
     }
     let (contents, after) = behind.split_at_checked(*length as usize).ok_or(bad_length)?;
-    let (digits, value) = meaning(contents, row.kind).ok_or(Rule::Contents.at(place.saturating_add(
-        2,
-    )))?;
+    let (digits, value) = meaning(contents, row.kind).ok_or(bad_contents)?;
     let found = Found {
         identifier: *identifier,
         digits,
