@@ -1,16 +1,10 @@
-// What a reader found, in plain numbers, so that the answers of two readers can be held against each other.
+// What a reader found. Types of its own, not the library's, and plain numbers, so that the answers of two
+// readers that share nothing can be held against each other.
 use arrayvec::ArrayVec;
 use std::fmt;
 
 // No message has more than five elements. There is room for one more, so that one too many is seen.
 const ROOM: usize = 6;
-
-// Octets are read as a message alone, or as a frame with a message in it.
-#[derive(Clone, Copy, Debug, PartialEq, Eq)]
-pub(crate) enum Form {
-    Message,
-    Frame,
-}
 
 // The part of the format that a fault belongs to.
 #[derive(Clone, Copy, Debug, PartialEq, Eq)]
@@ -62,6 +56,7 @@ pub(crate) struct Header {
     pub(crate) source: u8,
     pub(crate) destination: u8,
     pub(crate) stamp: u32,
+    // 0 for none, as the octets have it
     pub(crate) answers: u32,
 }
 
@@ -154,24 +149,5 @@ impl fmt::Display for Shown<'_> {
             Ok(answer) => write!(f, "{answer}"),
             Err(refusal) => write!(f, "{refusal}"),
         }
-    }
-}
-
-// Octets as a person writes them down.
-#[derive(Clone, Copy)]
-pub(crate) struct Hexadecimal<'a> {
-    pub(crate) octets: &'a [u8],
-}
-
-impl fmt::Display for Hexadecimal<'_> {
-    fn fmt<W: fmt::Write>(&self, f: &mut fmt::Formatter<W>) -> fmt::Result {
-        let [first, others @ ..] = self.octets else {
-            return write!(f, "no octets");
-        };
-        write!(f, "{first:02X}")?;
-        for octet in others {
-            write!(f, " {octet:02X}")?;
-        }
-        Ok(())
     }
 }

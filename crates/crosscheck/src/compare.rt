@@ -1,7 +1,9 @@
-// The library's answer in plain numbers, and whether it writes what it has read as the same octets.
+// The library's answer in plain numbers, and whether it writes what it has read as the same octets. The numbers
+// of types and elements are written again here: whether the library numbers rightly is what is checked.
 ghost use Rattle.std.specs.Prelude.{◌≡◌, ℕ, ◌<◌, ◌≤◌, true, length, slice_index};
 
-use crate::answer::{Answer, Content, Form, Found, Header, Part, Refusal};
+use crate::answer::{Answer, Content, Found, Header, Part, Refusal};
+use crate::sample::{Form, Sample};
 use elements::area::LocationArea;
 use elements::code::{Cause, Class, GprsDetachType, ImsiDetachType, RejectCause, UpdateType};
 use elements::fault::{Fault, Layer};
@@ -61,45 +63,45 @@ fn area(identifier: u8, area: LocationArea) -> Found {
     number(identifier, u64::from_be_bytes([0, 0, 0, a, b, c, d, e]))
 }
 
-// Of two values the one that an element holds, the first as 1 and the second as 2; any other as 0, which
-// no second reader accepts.
-fn either<T: PartialEq + Drop>(identifier: u8, value: T, choices: [T; 2]) -> Found {
-    let [first, second] = choices;
-    if value == first {
-        number(identifier, 1)
-    } else if value == second {
-        number(identifier, 2)
-    } else {
-        number(identifier, 0)
-    }
-}
-
+// One match for each code, so that a case added to it is not passed over.
 fn cause(cause: Cause) -> Found {
-    either(0x03, cause, [Cause::NotAttached, Cause::MovedToAnotherVlr])
+    let value = match cause {
+        Cause::NotAttached => 1,
+        Cause::MovedToAnotherVlr => 2,
+    };
+    number(0x03, value)
 }
 
 fn update(update: UpdateType) -> Found {
-    either(0x04, update, [UpdateType::ImsiAttach, UpdateType::Normal])
+    let value = match update {
+        UpdateType::ImsiAttach => 1,
+        UpdateType::Normal => 2,
+    };
+    number(0x04, value)
 }
 
 fn class(class: Class) -> Found {
-    either(0x07, class, [Class::A, Class::B])
+    let value = match class {
+        Class::A => 1,
+        Class::B => 2,
+    };
+    number(0x07, value)
 }
 
 fn gprs_detach(detach: GprsDetachType) -> Found {
-    either(
-        0x09,
-        detach,
-        [GprsDetachType::ByNetwork, GprsDetachType::ByMobile],
-    )
+    let value = match detach {
+        GprsDetachType::ByNetwork => 1,
+        GprsDetachType::ByMobile => 2,
+    };
+    number(0x09, value)
 }
 
 fn imsi_detach(detach: ImsiDetachType) -> Found {
-    either(
-        0x0A,
-        detach,
-        [ImsiDetachType::Unacknowledged, ImsiDetachType::Acknowledged],
-    )
+    let value = match detach {
+        ImsiDetachType::Unacknowledged => 1,
+        ImsiDetachType::Acknowledged => 2,
+    };
+    number(0x0A, value)
 }
 
 fn reject(cause: RejectCause) -> Found {
@@ -229,9 +231,9 @@ fn ask_for_frame(octets: &[u8]) -> Result<Accepted, Refusal> {
 }
 
 // The library's answer.
-pub(crate) fn ask_library(form: Form, octets: &[u8]) -> Result<Accepted, Refusal> {
-    match form {
-        Form::Message => ask_for_message(octets),
-        Form::Frame => ask_for_frame(octets),
+pub(crate) fn ask_library(sample: Sample) -> Result<Accepted, Refusal> {
+    match sample.form {
+        Form::Message => ask_for_message(sample.octets),
+        Form::Frame => ask_for_frame(sample.octets),
     }
 }

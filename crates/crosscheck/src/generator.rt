@@ -67,7 +67,7 @@ pub(crate) enum Choice {
 }
 
 impl Choice {
-    fn from(self, source: &mut Source, low: u8, high: u8) -> u8
+    fn pick(self, source: &mut Source, low: u8, high: u8) -> u8
         ensures { low ≤ high → result ≤ high }
     {
         match self {
@@ -98,15 +98,15 @@ fn add_imsi(
     let odd = digits % 2 == 1;
     let mark = if odd { 9 } else { 1 };
     octets.push((digits / 2).saturating_add(1))?;
-    octets.push(choice.from(source, 0, 9) * 16 + mark)?;
+    octets.push(choice.pick(source, 0, 9) * 16 + mark)?;
     // The octets both of whose halves are digits.
     for _ in 0..digits.saturating_sub(1) / 2 {
-        let low = choice.from(source, 0, 9);
-        let high = choice.from(source, 0, 9);
+        let low = choice.pick(source, 0, 9);
+        let high = choice.pick(source, 0, 9);
         octets.push(high * 16 + low)?;
     }
     if !odd {
-        let low = choice.from(source, 0, 9);
+        let low = choice.pick(source, 0, 9);
         octets.push(15 * 16 + low)?;
     }
     Ok(())
@@ -124,12 +124,12 @@ pub(crate) fn add_element(
         Kind::Digits => add_imsi(octets, plan.digits, plan.choice, source)?,
         Kind::Octet { low, high } => {
             octets.push(1)?;
-            octets.push(plan.choice.from(source, low, high))?;
+            octets.push(plan.choice.pick(source, low, high))?;
         }
         Kind::Number { size } => {
             octets.push(size)?;
             for _ in 0..size {
-                octets.push(plan.choice.from(source, 0, 255))?;
+                octets.push(plan.choice.pick(source, 0, 255))?;
             }
         }
     }
@@ -164,18 +164,18 @@ pub(crate) fn lawful_frame(
     source: &mut Source,
 ) -> Result<Vec<u8>, AllocError> {
     let mut octets = Vec::new(heap);
-    let from = choice.from(source, 1, 254);
+    let from = choice.pick(source, 1, 254);
     // The nodes differ: where both would be one node, the other is its neighbour.
-    let to = choice.from(source, 2, 253);
+    let to = choice.pick(source, 2, 253);
     let to = if from != to { to } else { to ^ 1 };
     octets.push(from)?;
     octets.push(to)?;
     for _ in 0..3 {
-        octets.push(choice.from(source, 0, 255))?;
+        octets.push(choice.pick(source, 0, 255))?;
     }
-    octets.push(choice.from(source, 1, 255))?;
+    octets.push(choice.pick(source, 1, 255))?;
     for _ in 0..4 {
-        octets.push(choice.from(source, 0, 255))?;
+        octets.push(choice.pick(source, 0, 255))?;
     }
     octets.extend_from_slice(message)?;
     Ok(octets)

@@ -8,6 +8,7 @@ mod counts;
 mod generator;
 mod reader;
 mod rule;
+mod sample;
 mod table;
 mod tally;
 mod trials;

@@ -1,7 +1,8 @@
 // The second reader. It shares no function with the library and goes another way: one loop walks the table
 // and takes element after element off the front of what is left.
-use crate::answer::{Answer, Content, Form, Found, Header, Refusal};
+use crate::answer::{Answer, Content, Found, Header, Refusal};
 use crate::rule::Rule;
+use crate::sample::{Form, Sample};
 use crate::table::{Kind, Row, message_type};
 use arrayvec::ArrayVec;
 
@@ -85,6 +86,7 @@ fn element<'a>(
         };
     }
     let bad_length = Rule::Length.at(place.saturating_add(1));
+    let bad_contents = Rule::Contents.at(place.saturating_add(2));
     let [identifier, length, behind @ ..] = rest else {
         return Err(bad_length);
     };
@@ -92,9 +94,7 @@ fn element<'a>(
         return Err(bad_length);
     }
     let (contents, after) = behind.split_at_checked(*length as usize).ok_or(bad_length)?;
-    let (digits, value) = meaning(contents, row.kind).ok_or(Rule::Contents.at(place.saturating_add(
-        2,
-    )))?;
+    let (digits, value) = meaning(contents, row.kind).ok_or(bad_contents)?;
     let found = Found {
         identifier: *identifier,
         digits,
@@ -164,12 +164,12 @@ fn frame(octets: &[u8]) -> Result<Answer, Refusal> {
 }
 
 // The second reader's answer.
-pub(crate) fn read(form: Form, octets: &[u8]) -> Result<Answer, Refusal> {
-    match form {
+pub(crate) fn read(sample: Sample) -> Result<Answer, Refusal> {
+    match sample.form {
         Form::Message => Ok(Answer {
             header: None,
-            content: message(octets, 0)?,
+            content: message(sample.octets, 0)?,
         }),
-        Form::Frame => frame(octets),
+        Form::Frame => frame(sample.octets),
     }
 }

@@ -1,15 +1,17 @@
 // What both readers answered, counted.
 ghost use Rattle.std.specs.Prelude.{◌≡◌, ◌<◌, true, is_ok};
 
-use crate::answer::{Answer, Form, Hexadecimal, Shown};
+use crate::answer::{Answer, Shown};
 use crate::compare::{Accepted, ask_library};
 use crate::counts::Counts;
 use crate::reader::read;
 use crate::rule::Rule;
+use crate::sample::{Form, Sample};
 use crate::table::{MessageType, TYPES};
 use anyhow::anyhow;
 use std::io;
 use words::counting::count;
+use words::hexadecimal::Hex;
 
 // Only so many differences are shown.
 const SHOWN: u64 = 20;
@@ -56,16 +58,12 @@ impl Tally {
         }
     }
 
-    // Gives the octets to both readers, and shows how they differ, if they do.
-    pub(crate) fn compare(
-        &mut self,
-        rt: &HostRuntime,
-        form: Form,
-        octets: &[u8],
-    ) -> io::Result<()> {
+    // Gives the sample to both readers, and shows how they differ, if they do.
+    pub(crate) fn compare(&mut self, rt: &HostRuntime, sample: Sample) -> io::Result<()> {
+        let Sample { form, octets } = sample;
         count(&mut self.strings(form).read);
-        let second = read(form, octets);
-        let library = ask_library(form, octets);
+        let second = read(sample);
+        let library = ask_library(sample);
         match (&second, &library) {
             (Ok(answer), Ok(accepted)) if *answer == accepted.answer => {
                 count(&mut self.strings(form).accepted);
@@ -108,8 +106,15 @@ impl Tally {
         if self.differences > SHOWN {
             return Ok(());
         }
-        let octets = Hexadecimal { octets };
-        println!(rt; "Difference on {octets}")?;
+        if octets.is_empty() {
+            println!(rt; "Difference on no octets")?;
+        } else {
+            let octets = Hex {
+                octets,
+                between: " ",
+            };
+            println!(rt; "Difference on {octets}")?;
+        }
         println!(rt; "    second reader: {second}")?;
         println!(rt; "    library:       {library}")?;
         if second == library {

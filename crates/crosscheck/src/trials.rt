@@ -1,6 +1,6 @@
 // Which octets the readers are tried on.
-use crate::answer::Form;
 use crate::generator::{Choice, Plan, Source, add_element, lawful_frame, lawful_message};
+use crate::sample::Sample;
 use crate::table::{MessageType, TYPES};
 use crate::tally::Tally;
 
@@ -30,30 +30,24 @@ fn put(octets: &mut Vec<u8>, place: usize, octet: u8) {
 }
 
 impl Trials<'_> {
-    fn compare(&mut self, form: Form, octets: &[u8]) -> anyhow::Result<()> {
-        self.tally.compare(self.rt, form, octets)?;
+    fn compare(&mut self, sample: Sample) -> anyhow::Result<()> {
+        self.tally.compare(self.rt, sample)?;
         Ok(())
     }
 
     // The octet at a place replaced by each of these.
-    fn replaced_at(
-        &mut self,
-        form: Form,
-        octets: &[u8],
-        place: usize,
-        others: &[u8],
-    ) -> anyhow::Result<()> {
-        let mut changed = Vec::from_slice(self.rt.alloc(), octets)?;
+    fn replaced_at(&mut self, sample: Sample, place: usize, others: &[u8]) -> anyhow::Result<()> {
+        let mut changed = Vec::from_slice(self.rt.alloc(), sample.octets)?;
         for other in others {
             put(&mut changed, place, *other);
-            self.compare(form, changed.as_slice())?;
+            self.compare(sample.with(changed.as_slice()))?;
         }
         Ok(())
     }
 
     // Each octet replaced by some others: its neighbours, one half turned over, and any.
-    fn replaced(&mut self, form: Form, octets: &[u8]) -> anyhow::Result<()> {
-        for (place, octet) in octets.iter().enumerate() {
+    fn replaced(&mut self, sample: Sample) -> anyhow::Result<()> {
+        for (place, octet) in sample.octets.iter().enumerate() {
             let others = [
                 octet.wrapping_add(1),
                 octet.wrapping_sub(1),
@@ -61,72 +55,72 @@ impl Trials<'_> {
                 *octet ^ 0xF0,
                 self.source.octet(),
             ];
-            self.replaced_at(form, octets, place, &others)?;
+            self.replaced_at(sample, place, &others)?;
         }
         Ok(())
     }
 
     // Each octet replaced by every value that it can have. Places alone are counted: what stood there does not matter.
-    fn replaced_by_all(&mut self, form: Form, octets: &[u8]) -> anyhow::Result<()> {
+    fn replaced_by_all(&mut self, sample: Sample) -> anyhow::Result<()> {
         let values: Vec<u8> = (0..=255).collect(self.rt.alloc())?;
-        for place in 0..octets.len() {
-            self.replaced_at(form, octets, place, values.as_slice())?;
+        for place in 0..sample.octets.len() {
+            self.replaced_at(sample, place, values.as_slice())?;
         }
         Ok(())
     }
 
     // Two octets replaced at once: only the fault that comes first counts.
-    fn replaced_twice(&mut self, form: Form, octets: &[u8]) -> anyhow::Result<()> {
+    fn replaced_twice(&mut self, sample: Sample) -> anyhow::Result<()> {
         for _ in 0..TWICE_WRONG {
-            let mut changed = Vec::from_slice(self.rt.alloc(), octets)?;
+            let mut changed = Vec::from_slice(self.rt.alloc(), sample.octets)?;
             for _ in 0..2 {
-                let place = self.source.place(octets.len());
+                let place = self.source.place(sample.octets.len());
                 let value = self.source.octet();
                 put(&mut changed, place, value);
             }
-            self.compare(form, changed.as_slice())?;
+            self.compare(sample.with(changed.as_slice()))?;
         }
         Ok(())
     }
 
     // Cut at every length. Lengths are counted here, not places of octets.
-    fn cut(&mut self, form: Form, octets: &[u8]) -> anyhow::Result<()> {
-        for length in 0..octets.len() {
-            self.compare(form, &octets[0..length])?;
+    fn cut(&mut self, sample: Sample) -> anyhow::Result<()> {
+        for length in 0..sample.octets.len() {
+            self.compare(sample.with(&sample.octets[0..length]))?;
         }
         Ok(())
     }
 
     // Lengthened by one random octet after another.
-    fn lengthened(&mut self, form: Form, octets: &[u8]) -> anyhow::Result<()> {
-        let mut longer = Vec::from_slice(self.rt.alloc(), octets)?;
-        for _ in octets.len()..LENGTHENED {
+    fn lengthened(&mut self, sample: Sample) -> anyhow::Result<()> {
+        let mut longer = Vec::from_slice(self.rt.alloc(), sample.octets)?;
+        for _ in sample.octets.len()..LENGTHENED {
             longer.push(self.source.octet())?;
-            self.compare(form, longer.as_slice())?;
+            self.compare(sample.with(longer.as_slice()))?;
         }
         Ok(())
     }
 
     // Lengthened by one lawful element, of any message.
-    fn with_element(&mut self, form: Form, octets: &[u8], plan: Plan) -> anyhow::Result<()> {
+    fn with_element(&mut self, sample: Sample, plan: Plan) -> anyhow::Result<()> {
         for message in &TYPES {
             for row in message.rows() {
-                let mut longer = Vec::from_slice(self.rt.alloc(), octets)?;
+                let mut longer = Vec::from_slice(self.rt.alloc(), sample.octets)?;
                 add_element(&mut longer, row, plan, &mut self.source)?;
-                self.compare(form, longer.as_slice())?;
+                self.compare(sample.with(longer.as_slice()))?;
             }
         }
         Ok(())
     }
 
     // Lawful octets, and what damage makes of them.
-    fn damaged(&mut self, form: Form, octets: &[u8], plan: Plan) -> anyhow::Result<()> {
-        self.compare(form, octets)?;
-        self.replaced(form, octets)?;
-        self.replaced_twice(form, octets)?;
-        self.cut(form, octets)?;
-        self.lengthened(form, octets)?;
-        self.with_element(form, octets, plan)
+    fn damaged(&mut self, sample: Sample, plan: Plan) -> anyhow::Result<()> {
+        self.compare(sample)?;
+        self.replaced(sample)?;
+        self.replaced_twice(sample)?;
+        self.cut(sample)?;
+        self.lengthened(sample)?;
+        self.with_element(sample, plan)
     }
 
     // A lawful frame with wrong nodes, and then with lawful nodes and the stamp 0.
@@ -134,7 +128,7 @@ impl Trials<'_> {
         let mut changed = Vec::from_slice(self.rt.alloc(), frame)?;
         let source = frame.first().copied().unwrap_or(0);
         put(&mut changed, 1, source);
-        self.compare(Form::Frame, changed.as_slice())?;
+        self.compare(Sample::frame(changed.as_slice()))?;
         for (from, to) in [
             (0, 0),
             (0, 255),
@@ -146,21 +140,21 @@ impl Trials<'_> {
         ] {
             put(&mut changed, 0, from);
             put(&mut changed, 1, to);
-            self.compare(Form::Frame, changed.as_slice())?;
+            self.compare(Sample::frame(changed.as_slice()))?;
         }
         for octet in changed.iter_mut().skip(2).take(4) {
             *octet = 0;
         }
-        self.compare(Form::Frame, changed.as_slice())
+        self.compare(Sample::frame(changed.as_slice()))
     }
 
     // The message of a plan, and the frame around it.
     fn planned(&mut self, plan: Plan) -> anyhow::Result<()> {
         let heap = self.rt.alloc();
         let message = lawful_message(heap, plan, &mut self.source)?;
-        self.damaged(Form::Message, message.as_slice(), plan)?;
+        self.damaged(Sample::message(message.as_slice()), plan)?;
         let frame = lawful_frame(heap, message.as_slice(), plan.choice, &mut self.source)?;
-        self.damaged(Form::Frame, frame.as_slice(), plan)?;
+        self.damaged(Sample::frame(frame.as_slice()), plan)?;
         self.bad_header(frame.as_slice())
     }
 
@@ -198,9 +192,9 @@ impl Trials<'_> {
             choice: Choice::Any,
         };
         let message = lawful_message(heap, plan, &mut self.source)?;
-        self.replaced_by_all(Form::Message, message.as_slice())?;
+        self.replaced_by_all(Sample::message(message.as_slice()))?;
         let frame = lawful_frame(heap, message.as_slice(), plan.choice, &mut self.source)?;
-        self.replaced_by_all(Form::Frame, frame.as_slice())
+        self.replaced_by_all(Sample::frame(frame.as_slice()))
     }
 
     // Random octets, none above `high`, as a message and as a frame.
@@ -210,8 +204,8 @@ impl Trials<'_> {
             for _ in 0..self.source.place(LENGTHENED) {
                 octets.push(self.source.within(0, high))?;
             }
-            self.compare(Form::Message, octets.as_slice())?;
-            self.compare(Form::Frame, octets.as_slice())?;
+            self.compare(Sample::message(octets.as_slice()))?;
+            self.compare(Sample::frame(octets.as_slice()))?;
         }
         Ok(())
     }
