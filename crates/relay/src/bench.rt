@@ -6,6 +6,7 @@ use crate::seen::{Offered, Seen};
 use crate::tally::{Event, Tally};
 use elements::node::NodeNumber;
 use std::io;
+use words::counting::count;
 
 // A carrier, and the line that it was made in.
 #[derive(Drop)]
@@ -32,7 +33,7 @@ impl Bench {
 
     // Does what the next line asks for, or shows why it cannot.
     pub(crate) fn line(&mut self, rt: &HostRuntime, line: &[u8]) -> io::Result<()> {
-        self.number = self.number.saturating_add(1);
+        count(&mut self.number);
         match self.follow(rt, line) {
             Ok(()) => Ok(()),
             Err(LineError::Mistake(mistake)) => self.bad(rt, mistake),
