@@ -46,6 +46,7 @@ impl Error for Mistake {}
 #[derive(Drop)]
 pub(crate) enum LineError {
     Mistake(Mistake),
+    Memory(AllocError),
     Io(io::Error),
 }
 
@@ -63,6 +64,17 @@ impl From<io::Error> for LineError {
 
 impl From<AllocError> for LineError {
     fn from(error: AllocError) -> LineError {
-        LineError::Io(error.into())
+        LineError::Memory(error)
+    }
+}
+
+// The program ends with the text of the very error that ended it.
+impl From<LineError> for anyhow::Error {
+    fn from(error: LineError) -> anyhow::Error {
+        match error {
+            LineError::Mistake(mistake) => mistake.into(),
+            LineError::Memory(error) => error.into(),
+            LineError::Io(error) => error.into(),
+        }
     }
 }
