@@ -8,16 +8,17 @@ use outcome::outcome_of;
 use std::io;
 use std::io::{BufRead, BufReader};
 use tally::Tally;
+use words::counting::count;
 use words::in_words::InWords;
 
 // The input is read as octets, since a line that is no text is a bad line too, and not the end.
 fn main(rt: HostRuntime) -> io::Result<()> {
     let mut tally = Tally::new();
-    // Counted by hand: a count that is full stays as it is, where `enumerate` would have to end before it is.
+    // By `count`, which stays at the largest number, where `enumerate` would have to end before it.
     let mut number: u64 = 0;
     for line in BufReader::new(rt.alloc(), rt.stdin())?.split(rt.alloc(), b'\n') {
         let line = line?;
-        number = number.saturating_add(1);
+        count(&mut number);
         let Some(outcome) = outcome_of(&line) else {
             continue;
         };

@@ -13,7 +13,7 @@ const FIRST: u8 = 20;
 #[derive(Clone, Copy, Default)]
 pub struct Tally {
     pub frames: u64,
-    // By number from 20 to 28, in the order in which they are said: a map by kind would have to be sorted for that.
+    // By number from 20 to 28. An array, not a map by kind, which would ask for memory: counting cannot fail.
     // The last of them, a buffer too short to write into, is never met in reading.
     pub faults: [u64; 9],
     pub bad_lines: u64,

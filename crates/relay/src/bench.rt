@@ -6,6 +6,7 @@ use crate::seen::{Offered, Seen};
 use crate::tally::{Event, Tally};
 use elements::node::NodeNumber;
 use std::io;
+use words::counting::count;
 
 // A carrier, and the line that it was made in.
 #[derive(Drop)]
@@ -31,25 +32,24 @@ impl Bench {
     }
 
     // Does what the next line asks for, or shows why it cannot.
-    pub(crate) fn line(&mut self, rt: &HostRuntime, line: &[u8]) -> io::Result<()> {
-        self.number = self.number.saturating_add(1);
+    pub(crate) fn line(&mut self, rt: &HostRuntime, line: &[u8]) -> Result<(), LineError> {
+        count(&mut self.number);
         match self.follow(rt, line) {
-            Ok(()) => Ok(()),
-            Err(LineError::Mistake(mistake)) => self.bad(rt, mistake),
-            Err(LineError::Io(error)) => Err(error),
+            Err(LineError::Mistake(mistake)) => Ok(self.bad(rt, mistake)?),
+            done => done,
         }
     }
 
     fn follow(&mut self, rt: &HostRuntime, line: &[u8]) -> Result<(), LineError> {
         match command_in(rt.alloc(), line)? {
-            Some(Command::Carrier(make)) => Ok(self.carrier(rt, &make)?),
+            Some(Command::Carrier(make)) => self.carrier(rt, &make),
             Some(Command::Put(octets)) => self.put(rt, octets.as_slice()),
             Some(Command::Take(node)) => self.take(rt, node),
             None => Ok(()),
         }
     }
 
-    fn carrier(&mut self, rt: &HostRuntime, make: &Make) -> io::Result<()> {
+    fn carrier(&mut self, rt: &HostRuntime, make: &Make) -> Result<(), LineError> {
         self.waiting(rt)?;
         let line = self.number;
         println!(rt; "line {line}: carrier {make}")?;
@@ -91,7 +91,7 @@ impl Bench {
     }
 
     // What waits in the carrier that is there.
-    fn waiting(&self, rt: &HostRuntime) -> io::Result<()> {
+    fn waiting(&self, rt: &HostRuntime) -> Result<(), LineError> {
         let Some(placed) = &self.placed else {
             return Ok(());
         };
@@ -108,8 +108,9 @@ impl Bench {
     }
 
     // What still waits, and the tally.
-    pub(crate) fn end(&self, rt: &HostRuntime) -> io::Result<()> {
+    pub(crate) fn end(&self, rt: &HostRuntime) -> Result<(), LineError> {
         self.waiting(rt)?;
-        println!(rt; "{}", self.tally)
+        println!(rt; "{}", self.tally)?;
+        Ok(())
     }
 }

@@ -92,9 +92,7 @@ fn alone<T: Drop>(made: T, rest: &[u8]) -> Result<T, LineError> {
 fn script_in(heap: Global, text: &[u8]) -> Result<Vec<u8>, LineError> {
     let text = str::from_utf8(text).map_err(|_| Mistake::Script)?;
     text.split_whitespace()
-        .map(|word| -> Result<u8, LineError> {
-            Ok(number_in(word.as_bytes()).ok_or(Mistake::Script)?)
-        })
+        .map(|word| number_in(word.as_bytes()).ok_or(LineError::Mistake(Mistake::Script)))
         .try_collect(heap)
 }
 

@@ -25,18 +25,18 @@ impl From<BadLine> for Mistake {
 
 impl fmt::Display for Mistake {
     fn fmt<W: fmt::Write>(&self, f: &mut fmt::Formatter<W>) -> fmt::Result {
-        f.write_str(match self {
-            Mistake::Verb => "neither carrier, put nor take",
-            Mistake::Carrier => {
-                "the carriers are queue, slip, gate queue, gate slip, mailbox and nowhere"
-            }
-            Mistake::Script => "a script is numbers from 0 to 255",
-            Mistake::Node => "take wants one node number from 0 to 255",
-            Mistake::Octets(bad) => return write!(f, "{bad}"),
-            Mistake::NoOctets => "put wants octets",
-            Mistake::Behind => "more words than this carrier wants",
-            Mistake::NoCarrier => "no carrier yet",
-        })
+        match self {
+            Mistake::Verb => f.write_str("neither carrier, put nor take"),
+            Mistake::Carrier => f.write_str(
+                "the carriers are queue, slip, gate queue, gate slip, mailbox and nowhere",
+            ),
+            Mistake::Script => f.write_str("a script is numbers from 0 to 255"),
+            Mistake::Node => f.write_str("take wants one node number from 0 to 255"),
+            Mistake::Octets(bad) => write!(f, "{bad}"),
+            Mistake::NoOctets => f.write_str("put wants octets"),
+            Mistake::Behind => f.write_str("more words than this carrier wants"),
+            Mistake::NoCarrier => f.write_str("no carrier yet"),
+        }
     }
 }
 
@@ -46,6 +46,7 @@ impl Error for Mistake {}
 #[derive(Drop)]
 pub(crate) enum LineError {
     Mistake(Mistake),
+    Memory(AllocError),
     Io(io::Error),
 }
 
@@ -63,6 +64,17 @@ impl From<io::Error> for LineError {
 
 impl From<AllocError> for LineError {
     fn from(error: AllocError) -> LineError {
-        LineError::Io(error.into())
+        LineError::Memory(error)
+    }
+}
+
+// The program ends with the text of the very error that ended it.
+impl From<LineError> for anyhow::Error {
+    fn from(error: LineError) -> anyhow::Error {
+        match error {
+            LineError::Mistake(mistake) => mistake.into(),
+            LineError::Memory(error) => error.into(),
+            LineError::Io(error) => error.into(),
+        }
     }
 }

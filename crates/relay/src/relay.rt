@@ -10,7 +10,7 @@ use queue::queue::Queue;
 use slip::carrying::Slip;
 use std::alloc::{AllocError, Global};
 
-// An enum, not a boxed dyn carrier, which no function may hand out; and a trait's six impls would be longer than three matches.
+// An enum, not a boxed dyn carrier, which no function may hand out; and a trait's impls would be longer than three matches.
 #[derive(Drop)]
 pub(crate) enum Relay {
     Queue(Queue),

@@ -14,7 +14,7 @@ pub enum Event {
 }
 
 // A count that is full stays as it is.
-#[derive(Clone, Copy)]
+#[derive(Clone, Copy, Default)]
 pub struct Tally {
     pub puts: u64,
     pub takes: u64,
@@ -27,13 +27,7 @@ impl Tally {
     pub fn new() -> Tally
         ensures { result ≡ nothing_yet }
     {
-        Tally {
-            puts: 0,
-            takes: 0,
-            given: 0,
-            nothing: 0,
-            bad_lines: 0,
-        }
+        Tally::default()
     }
 
     // A take counts as one, whatever it answered.

@@ -1,4 +1,4 @@
-// Lines of hexadecimal octets, as a person writes them.
+// Octets in hexadecimal: lines of them as a person writes them, and octets as the programs show them.
 ghost use Rattle.std.specs.Prelude.{◌≡◌, ◌<◌, ◌≤◌, length, IfSome, Ok, Err, MatchResult};
 ghost use Rattle.words.specs.Hexadecimal.{is_blank, digit_in, lone_digit, octet_in, octets_in, octets_of};
 
@@ -70,7 +70,7 @@ impl LineOctets {
     }
 }
 
-// Octets as they are written: two digits each, in capitals, with this text between octets.
+// Octets to be shown: two digits each, in capitals, with a text between one octet and the next.
 #[derive(Clone, Copy)]
 pub struct Hex<'a> {
     pub octets: &'a [u8],

@@ -8,7 +8,7 @@ use std::fmt;
 pub const LONGEST: usize = 128;
 
 // The octets of one line.
-#[derive(Drop)]
+#[derive(Debug, Drop, PartialEq, Eq)]
 pub struct LineOctets {
     pub(crate) octets: ArrayVec<u8, LONGEST>,
 }

@@ -2,35 +2,33 @@
 use crate::element::Tmsi;
 use crate::in_words::InWords;
 use imsi::Imsi;
+use messages::kind::MessageType;
 use messages::message::Message;
 use std::fmt;
 
 // The name alone.
-#[derive(Clone, Copy)]
-struct Name(Message);
-
-impl fmt::Display for Name {
+impl fmt::Display for InWords<MessageType> {
     fn fmt<W: fmt::Write>(&self, f: &mut fmt::Formatter<W>) -> fmt::Result {
         f.write_str(match self.0 {
-            Message::Paging { .. } => "PAGING",
-            Message::PagingFailure { .. } => "PAGING_FAILURE",
-            Message::MobileStatus { .. } => "MOBILE_STATUS",
-            Message::LuRequest { .. } => "LU Request",
-            Message::LuAccept { .. } => "LU Accept",
-            Message::LuReject { .. } => "LU Reject",
-            Message::Reset { .. } => "RESET",
-            Message::ResetAcknowledge { .. } => "RESET_ACKNOWLEDGE",
-            Message::GprsDetachIndication { .. } => "GPRS_DETACH Indication",
-            Message::GprsDetachAcknowledge { .. } => "GPRS_DETACH Acknowledge",
-            Message::ImsiDetachIndication { .. } => "IMSI_DETACH Indication",
-            Message::ImsiDetachAcknowledge { .. } => "IMSI_DETACH Acknowledge",
+            MessageType::Paging => "PAGING",
+            MessageType::PagingFailure => "PAGING_FAILURE",
+            MessageType::MobileStatus => "MOBILE_STATUS",
+            MessageType::LuRequest => "LU Request",
+            MessageType::LuAccept => "LU Accept",
+            MessageType::LuReject => "LU Reject",
+            MessageType::Reset => "RESET",
+            MessageType::ResetAcknowledge => "RESET_ACKNOWLEDGE",
+            MessageType::GprsDetachIndication => "GPRS_DETACH Indication",
+            MessageType::GprsDetachAcknowledge => "GPRS_DETACH Acknowledge",
+            MessageType::ImsiDetachIndication => "IMSI_DETACH Indication",
+            MessageType::ImsiDetachAcknowledge => "IMSI_DETACH Acknowledge",
         })
     }
 }
 
 impl fmt::Display for InWords<Message> {
     fn fmt<W: fmt::Write>(&self, f: &mut fmt::Formatter<W>) -> fmt::Result {
-        write!(f, "{}, ", Name(self.0))?;
+        write!(f, "{}, ", InWords(self.0.kind()))?;
         match self.0 {
             Message::Paging {
                 imsi,
