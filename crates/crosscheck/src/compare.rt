@@ -207,7 +207,10 @@ fn ask_for_message(octets: &[u8]) -> Result<Accepted, Refusal> {
             header: None,
             content: flat(message),
         },
-        written_again: makes(|buffer| write_message(message, buffer, Place::Alone), octets),
+        written_again: makes(
+            |buffer| write_message(message, buffer, Place::Alone),
+            octets,
+        ),
     })
 }
 
