@@ -7,6 +7,7 @@ ghost use Rattle.carrier.specs.Octets.{source_of, destination_of, stamp_of, rout
 use crate::datagram::{Datagram, WrongLength};
 use crate::route::Route;
 use elements::node::NodeNumber;
+use elements::reader::number_at;
 
 // What is shorter or longer is no frame, and no carrier takes it.
 const SHORTEST: usize = 11;
@@ -77,7 +78,6 @@ impl Datagram {
     pub fn stamp(&self) -> u32
         ensures { result ≡ stamp_of (octets_in self.now) }
     {
-        let octets = self.as_slice();
-        u32::from_be_bytes([octets[2], octets[3], octets[4], octets[5]])
+        number_at(self.as_slice(), 2).unwrap()
     }
 }

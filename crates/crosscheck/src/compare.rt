@@ -15,7 +15,7 @@ use frames::writing::write_frame;
 use imsi::Imsi;
 use messages::message::Message;
 use messages::reading::read_message;
-use messages::writing::write_message;
+use messages::writing::{Place, write_message};
 
 // Longer than any frame, so that an octet written behind the end is seen.
 const ROOM: usize = 80;
@@ -209,7 +209,10 @@ fn ask_for_message(octets: &[u8]) -> Result<Accepted, Refusal> {
             header: None,
             content: flat(message),
         },
-        written_again: makes(|buffer| write_message(message, buffer), octets),
+        written_again: makes(
+            |buffer| write_message(message, buffer, Place::Alone),
+            octets,
+        ),
     })
 }
 

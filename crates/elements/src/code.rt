@@ -6,7 +6,7 @@ ghost use Rattle.elements.specs.Backs.{cause_back, update_back, class_back, gprs
 use crate::node::NodeNumber;
 
 // What fits one content octet: an octet for each value, and the value, if any, that an octet stands for.
-// Not From and TryFrom, which have a relation for each impl: the law needs a function each way.
+// Not From and TryFrom: what is said of reading an element takes `value_in` as a function, and their relations are none.
 pub trait Coded: Sized {
     ghost octet_of: { Self → ℕ };
 
@@ -33,8 +33,8 @@ fn either<T: Copy>(octet: u8, first: T, second: T) -> Option<T>
     Some(if octet == 1 { first } else { second })
 }
 
-// Five codes have two cases each. Every line of their impls names what is the code's own, so that a trait of two cases
-// with one impl over it would ask for as many.
+// Five codes have two cases each. A trait of two cases with one impl over it would ask each code for as many lines as
+// stand here: its two cases, its numbers, and what is proved of them.
 
 // Why a mobile was not paged, or what became of it.
 #[derive(Clone, Copy, Debug, PartialEq, Eq, Hash)]

@@ -17,7 +17,8 @@ pub fn number_at(octets: &[u8], at: usize) -> Option<u32>
     Some(u32::from_be_bytes(*four))
 }
 
-// Octets, and the place at which the next element is read. Each reading that succeeds steps over what it read.
+// Octets, and the place at which the next element is read. Each reading that succeeds steps over what it read;
+// `coded` is for elements of one octet.
 #[derive(Clone, Copy, Debug)]
 pub struct Reader<'a> {
     pub octets: &'a [u8],
@@ -103,9 +104,9 @@ impl<'a> Reader<'a> {
             return Ok(None);
         }
         let _count = self.content_count(Element::Tmsi)?;
-        let number = number_at(self.octets, self.at + 2);
+        let number = number_at(self.octets, self.at + 2).unwrap();
         self.at += 6;
-        Ok(number)
+        Ok(Some(number))
     }
 
     // A channel, which is absent unless its identifier is next.
@@ -135,13 +136,7 @@ impl<'a> Reader<'a> {
         let _count = self.content_count(area.element())?;
         self.at += 7;
         Ok(LocationArea {
-            octets: [
-                octets[at + 2],
-                octets[at + 3],
-                octets[at + 4],
-                octets[at + 5],
-                octets[at + 6],
-            ],
+            octets: *octets[at + 2..].first_chunk::<5>().unwrap(),
         })
     }
 

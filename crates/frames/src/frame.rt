@@ -3,8 +3,8 @@ use elements::node::NodeNumber;
 use messages::message::Message;
 
 // Source and destination are plain node numbers, since either end may be an SGSN or a VLR.
-// `answers` is the stamp of the frame that this one answers, 0 for none: the number that the octets have, where an Option
-// could hold the 0 in two ways.
+// `answers` is the stamp of the frame that this one answers, 0 for none: the very number that the octets have.
+// An Option of a number that is not 0 would be made of it and back at each reading and writing, and say no more.
 #[derive(Clone, Copy, Debug, PartialEq, Eq)]
 pub struct Frame {
     pub source: NodeNumber,
@@ -14,7 +14,8 @@ pub struct Frame {
     pub message: Message,
 }
 
-// What stands in front of the message.
+// What stands in front of the message, while that is not read yet.
+// Not a part of `Frame`, whose fields would all be one name further away.
 #[derive(Clone, Copy, Debug, PartialEq, Eq)]
 pub struct Header {
     pub source: NodeNumber,

@@ -6,7 +6,7 @@ ghost use Rattle.frames.specs.Writing.{frame_written, frame_left, ReadBack};
 use crate::frame::Frame;
 use elements::fault::{Fault, FaultKind};
 use elements::node::NodeNumber;
-use messages::writing::write_message_in_frame;
+use messages::writing::{Place, write_message};
 
 // May a frame go between these nodes?
 fn may_go(source: NodeNumber, destination: NodeNumber) -> bool
@@ -38,7 +38,7 @@ pub fn write_frame(frame: Frame, buffer: &mut [u8]) -> Result<usize, Fault>
     if frame.stamp == 0 {
         return Err(FaultKind::Stamp.at(0));
     }
-    let end = write_message_in_frame(frame.message, buffer)?;
+    let end = write_message(frame.message, buffer, Place::InFrame)?;
     put_header(frame, buffer);
     Ok(end)
 }

@@ -45,21 +45,18 @@ pub(crate) fn octets_from(digits: u8, value: u64) -> ArrayVec<u8, 8>
     requires few { digits ≤ 15 }
     ensures { result.items ≡ imsi_octets digits value }
 {
-    let mut back: ArrayVec<u8, 8> = ArrayVec::new();
+    let mut octets: ArrayVec<u8, 8> = ArrayVec::new();
     let mut left = value;
     if digits % 2 == 0 {
-        back.push(240 + (left % 10) as u8);
+        octets.push(240 + (left % 10) as u8);
         left /= 10;
     }
     for _ in 0..(digits - 1) / 2 {
         let pair = (left % 100) as u8;
-        back.push(pair / 10 + 16 * (pair % 10));
+        octets.push(pair / 10 + 16 * (pair % 10));
         left /= 100;
     }
-    back.push(1 + 8 * (digits % 2) + 16 * (left % 10) as u8);
-    let mut octets = ArrayVec::new();
-    for octet in back.iter().rev() {
-        octets.push(*octet);
-    }
+    octets.push(1 + 8 * (digits % 2) + 16 * (left % 10) as u8);
+    octets.as_mut_slice().reverse();
     octets
 }

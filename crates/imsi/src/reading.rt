@@ -13,7 +13,7 @@ const EVEN: u8 = 1;
 
 const FILLER: u8 = 15;
 
-// The same by the marker, the count of octets and the filler.
+// The digit count and the value, by the marker, the count of octets and the filler.
 fn digits_by_marker(octets: &[u8]) -> Option<(u8, u64)>
     ensures { result ≡ imsi_in octets.now }
 {

@@ -1,9 +1,9 @@
 -- The type octet that a message begins with.
 use Rattle.std.proofs.Common.{◌≡◌, ℕ, ◌≢◌, cond, eqb, List, Ok, Err, Some, Result, sym, ap, ◌∙◌}
 use Rattle.std.specs.Prelude.{MatchResult, slice_get}
-use Rattle.std.specs.Result.{result_or}
 use Rattle.std.proofs.lemmas.Bool.{cond-true, cond-false, ne_eqb, lt-ltb}
 use Rattle.std.proofs.lemmas.Option.{get_or_from_slice_get, slice_get_within}
+use Rattle.elements.specs.declared.fault.Fault.{Fault}
 use Rattle.elements.specs.declared.fault.FaultKind.TheVariants as fault
 use Rattle.elements.specs.Faults.{wrong}
 use Rattle.messages.specs.declared.kind.MessageType.{MessageType}
@@ -33,8 +33,8 @@ untyped s at n none =
     ∙ another kind.ImsiDetachAcknowledge n _ _ (none kind.ImsiDetachAcknowledge)
 
 -- the octet at a place, as its kind or the fault there
-pub begun : (s : List ℕ) (at n : ℕ) (t : Result MessageType UnknownType) → slice_get s at ≡ Some n → TypeOf n t → MatchResult (result_or t (wrong fault.MessageType at)) (λ k. message_at s at ≡ body_at s at (octet_of k)) (λ f. message_at s at ≡ Err f)
-begun s at n t g e =
+pub begun : (s : List ℕ) (at n : ℕ) (t : Result MessageType UnknownType) (r : Result MessageType Fault) → slice_get s at ≡ Some n → TypeOf n t → MatchResult t (λ k. r ≡ Ok k) (λ _. r ≡ wrong fault.MessageType at) → MatchResult r (λ k. message_at s at ≡ body_at s at (octet_of k)) (λ f. message_at s at ≡ Err f)
+begun s at n t r g e is =
     let there : message_at s at ≡ body_at s at n = cond-true _ _ _ (lt-ltb at _ (slice_get_within s at n g)) ∙ ap (body_at s at) (get_or_from_slice_get s at n 0 g) in
-    elim t as (λ v. TypeOf n v → MatchResult (result_or v (wrong fault.MessageType at)) (λ k. message_at s at ≡ body_at s at (octet_of k)) (λ f. message_at s at ≡ Err f))
-    [ Ok k ↦ λ h. there ∙ ap (body_at s at) (sym h) | Err d ↦ λ h. there ∙ untyped s at n h.1 ] e
+    elim t as (λ v. TypeOf n v → MatchResult v (λ k. r ≡ Ok k) (λ _. r ≡ wrong fault.MessageType at) → MatchResult r (λ k. message_at s at ≡ body_at s at (octet_of k)) (λ f. message_at s at ≡ Err f))
+    [ Ok k ↦ λ h o. rw o (there ∙ ap (body_at s at) (sym h)) | Err d ↦ λ h o. rw o (there ∙ untyped s at n h.1) ] e is

@@ -1,5 +1,6 @@
 pub mod Kinds
 pub mod Lawful
+pub mod Places
 pub mod Spelling
 pub mod Reading
 pub mod Writing

@@ -2,6 +2,9 @@
 ghost use Rattle.std.specs.Prelude.{◌≡◌};
 ghost use Rattle.messages.specs.Kinds.{octet_of, TypeOf};
 
+use std::error::Error;
+use std::fmt;
+
 // The kinds, with the type octets that messages begin with. LU is a location update.
 #[derive(Clone, Copy, Debug, PartialEq, Eq, Hash, PartialOrd, Ord)]
 pub enum MessageType {
@@ -32,6 +35,14 @@ impl MessageType {
 pub struct UnknownType {
     pub octet: u8,
 }
+
+impl fmt::Display for UnknownType {
+    fn fmt<W: fmt::Write>(&self, f: &mut fmt::Formatter<W>) -> fmt::Result {
+        write!(f, "no message has type {:02X}", self.octet)
+    }
+}
+
+impl Error for UnknownType {}
 
 impl TryFrom<u8> for MessageType {
     type Error = UnknownType;

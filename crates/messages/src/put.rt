@@ -1,7 +1,7 @@
 // Octets put into a buffer, one element after another.
 ghost use Rattle.std.specs.Prelude.{◌≡◌, ◌+◌, ◌<◌, ◌≤◌, true, ◌∷◌, length};
 
-use elements::area::LocationArea;
+use elements::area::{Area, LocationArea};
 use elements::code::Coded;
 use elements::element::Element;
 use imsi::Imsi;
@@ -16,6 +16,7 @@ pub(crate) struct Writer<'a> {
 }
 
 impl Writer<'_> {
+    ghost use Rattle.elements.specs.Areas.{element_of};
     ghost use Rattle.elements.specs.Spelling.{imsi_element, octet_element, area_element, tmsi_element, channel_element};
     ghost use Rattle.elements.specs.Table.{identifier_of};
     ghost use Rattle.messages.specs.Lawful.{lawful_mobile};
@@ -59,11 +60,11 @@ impl Writer<'_> {
         self.element(element, &[value.octet()]);
     }
 
-    pub(crate) fn area(&mut self, element: Element, area: LocationArea)
+    pub(crate) fn area(&mut self, which: Area, area: LocationArea)
         requires { HasRoom self.old 7 }
-        ensures { Puts 7 (area_element element area) self.old self.new }
+        ensures { Puts 7 (area_element (element_of which) area) self.old self.new }
     {
-        self.element(element, &area.octets);
+        self.element(which.element(), &area.octets);
     }
 
     // Nothing where it is absent.

@@ -93,7 +93,7 @@ fn message_type(from: &mut Reader) -> Result<MessageType, Fault>
 {
     let unknown = FaultKind::MessageType.at(from.at);
     let octet = from.octet().ok_or(unknown)?;
-    MessageType::try_from(octet).or(Err(unknown))
+    MessageType::try_from(octet).map_err(|_| unknown)
 }
 
 // The message from the reader's place to the end.

@@ -1,17 +1,39 @@
 // Messages to octets.
 ghost use Rattle.std.specs.Prelude.{◌≡◌, ◌≤◌, true};
 ghost use Rattle.messages.specs.Lawful.{lawful_message};
+ghost use Rattle.messages.specs.Places.{start_of};
 ghost use Rattle.messages.specs.Spelling.{elements_of, octets_of};
 ghost use Rattle.messages.specs.Writing.{HasRoom, Puts, written_at, left_at, ReadBack};
 
 use crate::message::Message;
 use crate::put::Writer;
 use crate::reading::IN_FRAME;
+use elements::area::Area;
 use elements::element::Element;
 use elements::fault::{Fault, FaultKind};
 
 // The buffer must hold the longest frame, whatever is written into it.
 pub const BUFFER_SIZE: usize = 64;
+
+// Where a message is written: at the front of a buffer, or behind the room for a frame's own ten octets.
+#[derive(Clone, Copy, Debug, PartialEq, Eq)]
+pub enum Place {
+    Alone,
+    InFrame,
+}
+
+impl Place {
+    // The place of the message's first octet.
+    pub fn start(self) -> usize
+        ensures value { result ≡ start_of self }
+        ensures low { result ≤ 10 }
+    {
+        match self {
+            Place::Alone => 0,
+            Place::InFrame => IN_FRAME,
+        }
+    }
+}
 
 // Puts what follows the type octet of a lawful message.
 fn put_elements(to: &mut Writer<'_>, message: Message)
@@ -42,13 +64,13 @@ fn put_elements(to: &mut Writer<'_>, message: Message)
         } => {
             to.imsi(imsi);
             to.code(Element::UpdateType, update);
-            to.area(Element::OldArea, old_area);
-            to.area(Element::NewArea, new_area);
+            to.area(Area::Old, old_area);
+            to.area(Area::New, new_area);
             to.code(Element::Class, class);
         }
         Message::LuAccept { imsi, new_area } => {
             to.imsi(imsi);
-            to.area(Element::NewArea, new_area);
+            to.area(Area::New, new_area);
         }
         Message::LuReject { imsi, cause } => {
             to.imsi(imsi);
@@ -81,7 +103,7 @@ fn put_message(to: &mut Writer<'_>, message: Message)
 }
 
 // Writes the message from `at` on, or refuses and leaves the buffer as it was.
-// The two places that exist have a public function each: from 34 on a buffer of 64 octets need not hold the message.
+// Not for callers, who give a `Place`: from 34 on a buffer of 64 octets need not hold the message.
 fn write_at(message: Message, buffer: &mut [u8], at: usize) -> Result<usize, Fault>
     requires { at ≤ 10 }
     ensures value { result ≡ written_at at message buffer.old }
@@ -99,20 +121,11 @@ fn write_at(message: Message, buffer: &mut [u8], at: usize) -> Result<usize, Fau
     Ok(to.at)
 }
 
-// Writes the message at the front of the buffer, and answers how many octets it has.
-pub fn write_message(message: Message, buffer: &mut [u8]) -> Result<usize, Fault>
-    ensures value { result ≡ written_at 0 message buffer.old }
-    ensures octets { buffer.new ≡ left_at 0 message buffer.old }
-    ensures back { ReadBack 0 message buffer.new result }
+// Writes the message at its place in the buffer, and answers the place after it.
+pub fn write_message(message: Message, buffer: &mut [u8], place: Place) -> Result<usize, Fault>
+    ensures value { result ≡ written_at (start_of place) message buffer.old }
+    ensures octets { buffer.new ≡ left_at (start_of place) message buffer.old }
+    ensures back { ReadBack (start_of place) message buffer.new result }
 {
-    write_at(message, buffer, 0)
-}
-
-// Writes the message behind the room for a frame's own ten octets, and answers the place after it.
-pub fn write_message_in_frame(message: Message, buffer: &mut [u8]) -> Result<usize, Fault>
-    ensures value { result ≡ written_at 10 message buffer.old }
-    ensures octets { buffer.new ≡ left_at 10 message buffer.old }
-    ensures back { ReadBack 10 message buffer.new result }
-{
-    write_at(message, buffer, IN_FRAME)
+    write_at(message, buffer, place.start())
 }
