@@ -1,2 +1,4 @@
+pub mod Enrolling
 pub mod Moves
 pub mod Records
+pub mod State
