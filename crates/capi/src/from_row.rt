@@ -171,6 +171,7 @@ impl Row {
         ensures { result ≡ message_from (fields_of self.now) }
     {
         let octet = fitted::<u8>(self.kind, FaultKind::MessageType)?;
+        // Not by `map_err` and `?`, which drop what the error says of the octet: the proof needs that.
         let Ok(kind) = MessageType::try_from(octet) else {
             return Err(FaultKind::MessageType.at(0));
         };

@@ -10,7 +10,8 @@ use crate::datagram::Datagram;
 use elements::node::NodeNumber;
 
 // A frame given has a higher stamp than all given before from its source to its node. The stamp last given,
-// 0 when new, is moved only by a frame given.
+// 0 when new, is moved only by a frame given. Its put and take are its own, so that their contracts name the frames that
+// wait and the stamps.
 pub trait InOrder: Carrier {
     ghost last_given: { Self → Stamps };
 

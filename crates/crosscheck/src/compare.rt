@@ -1,5 +1,6 @@
 // The library's answer in plain numbers, and whether it writes what it has read as the same octets. The numbers
-// of types and elements are written again here: whether the library numbers rightly is what is checked.
+// of types and elements, and an area's number, are written again here: whether the library numbers rightly is what is
+// checked.
 ghost use Rattle.std.specs.Prelude.{◌≡◌, ℕ, ◌<◌, ◌≤◌, true, length, slice_index};
 
 use crate::answer::{Answer, Content, Found, Header, Part, Refusal};

@@ -67,6 +67,7 @@ pub(crate) enum Choice {
 }
 
 impl Choice {
+    // The source stays a parameter, here and below: `Trials` owns it, and draws from it between these calls.
     fn pick(self, source: &mut Source, low: u8, high: u8) -> u8
         ensures { low ≤ high → result ≤ high }
     {

@@ -6,7 +6,8 @@ ghost use Rattle.elements.specs.Backs.{cause_back, update_back, class_back, gprs
 use crate::node::NodeNumber;
 
 // What fits one content octet: an octet for each value, and the value, if any, that an octet stands for.
-// Not From and TryFrom: what is said of reading an element takes `value_in` as a function, and their relations are none.
+// Not From and TryFrom: what is said of reading an element takes `value_in` as a function, and what those two give is said
+// by relations.
 pub trait Coded: Sized {
     ghost octet_of: { Self → ℕ };
 

@@ -82,7 +82,7 @@ impl<'a> Reader<'a> {
         Ok(value)
     }
 
-    // The digit count and the value of an IMSI.
+    // The digit count and the value of an IMSI: the pair from which an `Imsi` is made.
     pub fn imsi(&mut self) -> Result<(u8, u64), Fault>
         ensures value { result ≡ imsi_at self.old.octets.now self.old.at }
         ensures after { IfOk result (λ i. self.new ≡ record self.old { at = self.old.at + 3 + i.0 / 2 }) }

@@ -41,6 +41,7 @@ fn pass(pairs: &mut Pairs, came: Option<Datagram>) -> Option<Datagram>
 {
     let datagram = came?;
     let frame = read_frame(datagram.as_slice()).ok()?;
+    // By the frame that was read: it is what the promise of order speaks of.
     let route = Route {
         source: frame.source,
         destination: frame.destination,

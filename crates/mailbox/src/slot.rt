@@ -7,7 +7,7 @@ use carrier::route::Route;
 use elements::node::NodeNumber;
 
 // The first frame of highest stamp put for a pair, and the stamp last given of that pair, 0 for none.
-// 0 for none, the number that the promise of order has where nothing was given: an Option would be made 0 again there.
+// That is the number that the promise of order has where nothing was given: an Option would be made 0 again there.
 // The frame waits while its stamp is the higher: an emptied slot keeps the frame given, and so its pair.
 #[derive(Clone, Copy)]
 pub struct Slot {
@@ -15,7 +15,7 @@ pub struct Slot {
     pub given: u32,
 }
 
-// A blank, whose frame does not wait.
+// A blank, whose frame does not wait. By hand, since no datagram is one by default.
 impl Default for Slot {
     ghost is_default = { λ e. waits e ≡ false };
 

@@ -3,7 +3,7 @@ ghost use Rattle.std.specs.Prelude.{◌≡◌};
 ghost use Rattle.station.specs.Marks.{doubted, node_in};
 
 // `N` is the kind of the other end's number: a VLR's in the SGSN's table, the SGSN's in a VLR's.
-// Not an Option of a node and its sureness: users know the three marks by these names.
+// An enum whose cases carry the number, the same in both tables: the three marks are what planners read.
 #[derive(Clone, Copy, Debug, PartialEq, Eq)]
 pub enum Mark<N> {
     // no node

@@ -26,7 +26,7 @@ pub struct Due {
     pub ticks: u8,
 }
 
-#[derive(Clone, Copy, Debug, PartialEq, Eq)]
+#[derive(Clone, Copy, Debug, Default, PartialEq, Eq)]
 pub struct Row {
     // from a loss here until its last RESET is acknowledged
     pub recovery: Option<Recovery>,
@@ -39,11 +39,7 @@ impl Row {
     pub fn new() -> Row
         ensures { result ≡ new_row }
     {
-        Row {
-            recovery: None,
-            reset: None,
-            due: None,
-        }
+        Row::default()
     }
 
     // After a loss here, told by a RESET with this stamp.
