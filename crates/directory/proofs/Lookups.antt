@@ -2,6 +2,7 @@
 use Rattle.std.proofs.Common.{◌≡◌, ℕ, zero, suc, Bool, true, false, cond, ltb, List, [], ◌∷◌, map, get_or, set, Some, None, Ok, Err, Option, sym, refl, ap, ◌∙◌, ⊎_elim, arith}
 use Rattle.std.specs.List.{insert}
 use Rattle.std.proofs.lemmas.Bool.{cases_Bool, lt-ltb, ltb-true, true≢false}
+use Rattle.std.proofs.lemmas.Option.{none-some, same_Some}
 use Rattle.std.proofs.lemmas.Bool.Decides.{nat_tests}
 use Rattle.imsi.specs.declared.Imsi.{Imsi}
 use Rattle.std.specs.Option.{option_map}
@@ -53,6 +54,17 @@ module _ {R : Type 0} (w : R → Imsi) where
       let p = s.1 zero x (omega arith) in
       step (same m (w x)) (ltb (rank_of m) (rank_of (w x))) false false (Some x) None (at w xs m) p.0 p.1
       ∙ at_missing xs m i (omega (arith, s.0), (λ k c h. s.1 (suc k) c (omega arith)), (λ c h. s.2 c (omega arith)))
+
+  -- the record found is of the IMSI
+  pub at-whose : (xs : List R) (m : Imsi) (r : R) → at w xs m ≡ Some r → w r ≡ m
+  at-whose [] m r e = absurd (none-some r e)
+  at-whose (x ∷ xs) m r e = ⊎_elim
+      (λ t. ap w (sym (same_Some x r (sym (cond_is (same m (w x)) true (Some x) (cond (ltb (rank_of m) (rank_of (w x))) None (at w xs m)) t) ∙ e))) ∙ sym (same_true m (w x) t))
+      (λ f. ⊎_elim
+      (λ t. absurd (none-some r (sym (step (same m (w x)) (ltb (rank_of m) (rank_of (w x))) false true (Some x) None (at w xs m) f t) ∙ e)))
+      (λ g. at-whose xs m r (sym (step (same m (w x)) (ltb (rank_of m) (rank_of (w x))) false false (Some x) None (at w xs m) f g) ∙ e))
+      (cases_Bool (ltb (rank_of m) (rank_of (w x)))))
+      (cases_Bool (same m (w x)))
 
   pub stored_set : (xs : List R) (r : R) (i : ℕ) → Sought w (w r) xs (Ok i) → set xs i r ≡ stored w r xs
   stored_set [] r i s = absurd (omega (arith, s.0))
