@@ -1,12 +1,23 @@
 // Enrolling a mobile.
+ghost use Rattle.std.specs.Prelude.{◌≡◌};
 ghost use Rattle.vlr.specs.State.{state_of};
-ghost use Rattle.vlr.specs.Enrolling.{Enrolled};
+ghost use Rattle.vlr.specs.Enrolling.{enrolled, Enrolled};
 
 use crate::record::Record;
 use crate::vlr::Vlr;
 use directory::table::{look, store};
 use imsi::Imsi;
 use station::denial::Denial;
+
+// The record of a mobile whose home says this now, where the one before was this, or none.
+fn enrolled(before: Option<Record>, imsi: Imsi, home_cause: u8) -> Record
+    ensures { result ≡ enrolled imsi home_cause before }
+{
+    match before {
+        Some(record) => record.with_home_cause(home_cause),
+        None => Record::new(imsi, home_cause),
+    }
+}
 
 impl Vlr {
     // Sets what a mobile's home says of it, and gives it a record if it has none.
@@ -19,11 +30,14 @@ impl Vlr {
         if !imsi.is_lawful() {
             return Err(Denial::UnlawfulImsi);
         }
-        let held = look(&self.places, self.held, imsi);
-        let record = held.map_or(Record::new(imsi, home_cause), |record| {
-            record.with_home_cause(home_cause)
-        });
-        self.held = store(&mut self.places, self.held, record).ok_or(Denial::NoPlace)?;
-        Ok(())
+        let before = look(&self.places, self.held, imsi);
+        let after = enrolled(before, imsi, home_cause);
+        match store(&mut self.places, self.held, after) {
+            Some(held) => {
+                self.held = held;
+                Ok(())
+            }
+            None => Err(Denial::NoPlace),
+        }
     }
 }
