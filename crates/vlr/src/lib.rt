@@ -3,5 +3,6 @@
 
 pub mod enrolling;
 pub mod moves;
+pub mod paging;
 pub mod record;
 pub mod vlr;

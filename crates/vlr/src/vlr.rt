@@ -1,6 +1,7 @@
 // A voice register: its numbers, its records, and what it keeps of its SGSN.
-ghost use Rattle.std.specs.Prelude.{◌≡◌, ◌≤◌, length, take};
+ghost use Rattle.std.specs.Prelude.{◌≡◌, ◌≤◌, true, length, take};
 ghost use Rattle.directory.specs.Order.{Climbs};
+ghost use Rattle.frames.specs.Format.{lawful_nodes};
 
 use crate::record::Record;
 use elements::node::SgsnNumber;
@@ -11,7 +12,7 @@ use station::sending::Sender;
 pub const PLACES: usize = 1024;
 
 // The first `held` of `places` are records, in rising order of their mobiles. The register owns the places, so that no
-// memory is wanted later.
+// memory is wanted later. Its number and its SGSN's are lawful and different.
 #[derive(Drop)]
 pub struct Vlr {
     pub sender: Sender,
@@ -19,6 +20,7 @@ pub struct Vlr {
     pub row: Row,
     pub places: [Record; 1024],
     pub held: usize,
+    ghost nodes: { lawful_nodes sender.own sgsn.node ≡ true },
     ghost all: { length places ≡ 1024 },
     ghost few: { held ≤ 1024 },
     ghost rising: { Climbs (λ r. r.imsi) (take held places) },
