@@ -2,7 +2,9 @@
 #![tactic(auto)]
 
 pub mod enrolling;
+pub mod making;
 pub mod moves;
 pub mod paging;
 pub mod record;
+pub mod recovering;
 pub mod vlr;
