@@ -1,4 +1,5 @@
 pub mod Calls
+pub mod Delivering
 pub mod Enrolling
 pub mod Making
 pub mod Moves
