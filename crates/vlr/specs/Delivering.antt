@@ -72,9 +72,17 @@ row_after r n a (GprsDetachAcknowledge i t) = r
 row_after r n a (ImsiDetachIndication i t) = r
 row_after r n a (ImsiDetachAcknowledge i t) = r
 
+-- so much changes but for the answer
+abbrev pub with_moved : State → Frame → State
+with_moved s f = record { own = s.own; last = s.last; sgsn = s.sgsn; row = row_after s.row f.stamp f.answers f.message; records = records_after s f.message }
+
+-- with so many stamps more taken
+abbrev pub with_last : State → ℕ → State
+with_last s n = record { own = s.own; last = s.last + n; sgsn = s.sgsn; row = s.row; records = s.records }
+
 -- after a frame from its SGSN that names no other
 abbrev pub taken : State → Frame → State
-taken s f = record { own = s.own; last = s.last + length (answers_to s f); sgsn = s.sgsn; row = row_after s.row f.stamp f.answers f.message; records = records_after s f.message }
+taken s f = with_last (with_moved s f) (length (answers_to s f))
 
 abbrev pub own_of : State → NodeNumber
 own_of s = s.own
