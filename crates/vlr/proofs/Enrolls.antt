@@ -1,5 +1,5 @@
 -- What a store of the enrolled record means for the questions of an enrolment.
-use Rattle.std.proofs.Common.{◌≡◌, ℕ, ◌≤◌, Bool, true, false, List, length, take, Ok, Err, Some, None, Option, sym, refl, ap, ◌∙◌, subst}
+use Rattle.std.proofs.Common.{◌≡◌, ℕ, true, false, List, length, take, Ok, Err, Some, None, Option, sym, refl, ap, ◌∙◌, subst}
 use Rattle.imsi.specs.declared.Imsi.{Imsi}
 use Rattle.imsi.specs.Spelling.{lawful_imsi}
 use Rattle.directory.specs.Lookup.{at, fits, stored, Stored}

@@ -1,5 +1,5 @@
 -- What answers a lawful message is lawful.
-use Rattle.std.proofs.Common.{◌≡◌, ℕ, Bool, true, false, cond, nat_le, eqb, Some, None, Option, sym, refl, ap, ◌∙◌, subst, arith}
+use Rattle.std.proofs.Common.{◌≡◌, ℕ, Bool, true, false, cond, nat_le, eqb, Some, Option, sym, refl, ap, ◌∙◌, arith}
 use Rattle.std.proofs.lemmas.Bool.{and_parts, and_from}
 use Rattle.std.proofs.lemmas.Bool.Decides.{nat_tests}
 use Rattle.std.proofs.lemmas.Option.{none-some, same_Some}
@@ -11,7 +11,7 @@ use Rattle.messages.specs.declared.message.Message.{Message}
 use Rattle.messages.specs.declared.message.Message.TheVariants.{Paging, PagingFailure, MobileStatus, LuRequest, LuAccept, LuReject, Reset, ResetAcknowledge, GprsDetachIndication, GprsDetachAcknowledge, ImsiDetachIndication, ImsiDetachAcknowledge}
 use Rattle.messages.specs.Lawful.{lawful_message, lawful_mobile, lawful_area}
 use Rattle.vlr.specs.declared.record.Record.{Record}
-use Rattle.vlr.specs.Moves.{answer_to, cause_for, update_answer, detach_answer}
+use Rattle.vlr.specs.Moves.{answer_to, cause_for, detach_answer}
 
 update_lawful : (b : Bool) (i : Imsi) (w : LocationArea) (c : ℕ) → eqb c 0 ≡ b → lawful_mobile i ≡ true → lawful_area w ≡ true → lawful_message (cond b (LuAccept i w) (LuReject i (record { number = c }))) ≡ true
 update_lawful true i w c e m a = and_from _ _ m a

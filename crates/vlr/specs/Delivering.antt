@@ -1,5 +1,5 @@
 -- What a frame does at a VLR.
-use Rattle.std.specs.Prelude.{◌≡◌, ℕ, ◌+◌, Bool, true, false, cond, List, [], ◌∷◌, map, length, Some, None, Option, Result}
+use Rattle.std.specs.Prelude.{ℕ, ◌+◌, cond, List, [], ◌∷◌, map, length, Some, None, Option, Result}
 use Rattle.imsi.specs.declared.Imsi.{Imsi}
 use Rattle.elements.specs.declared.node.NodeNumber.{NodeNumber}
 use Rattle.frames.specs.declared.frame.Frame.{Frame}

@@ -1,5 +1,5 @@
 -- A loss, and a tick, at a VLR.
-use Rattle.std.specs.Prelude.{ℕ, ◌+◌, List, [], ◌∷◌, map, length}
+use Rattle.std.specs.Prelude.{◌+◌, List, [], ◌∷◌, map, length}
 use Rattle.station.specs.declared.sending.Outgoing.{Outgoing}
 use Rattle.station.specs.Rows.{lost_row}
 use Rattle.station.specs.Ticks.{reset_to, row_sends, row_ticked}

@@ -1,6 +1,5 @@
-use Rattle.std.proofs.Common.{◌≡◌, true, Some, sym, ◌∙◌, subst, rules}
+use Rattle.std.proofs.Common.{◌≡◌, Some, sym, ◌∙◌, subst}
 use Rattle.std.proofs.lemmas.Bool.{and_from}
-use Rattle.messages.specs.Lawful.{lawful_message}
 use Rattle.station.specs.Sends.{Sent}
 use Rattle.vlr.specs.Moves.{answer_to}
 use Rattle.vlr.specs.Delivering.{answering}

@@ -1,4 +1,4 @@
-use Rattle.std.proofs.Common.{◌≡◌, ◌≤◌, true, false, take, None, Some, Ok, Err, sym, refl, ap, ◌∙◌, subst, rules, arith}
+use Rattle.std.proofs.Common.{◌≡◌, true, false, take, Err, sym, refl, ap, ◌∙◌, subst, rules, arith}
 use Rattle.imsi.specs.Spelling.{lawful_imsi}
 use Rattle.directory.specs.Lookup.{at, Held, Stored}
 use Rattle.station.specs.Sends.{is_worn}

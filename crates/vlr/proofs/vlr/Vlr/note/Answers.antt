@@ -1,4 +1,4 @@
-use Rattle.std.proofs.Common.{◌≡◌, ◌≤◌, take, None, sym, refl, ◌∙◌, subst, rules, arith}
+use Rattle.std.proofs.Common.{◌≡◌, None, sym, refl, ◌∙◌, subst, rules, arith}
 use Rattle.directory.specs.Lookup.{Held, Stored}
 use Rattle.vlr.specs.State.{state_of, whose}
 use Rattle.vlr.proofs.Delivers.{placed}
