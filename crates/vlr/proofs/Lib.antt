@@ -1,0 +1,3 @@
+pub mod Delivers
+pub mod Enrolls
+pub mod Replies

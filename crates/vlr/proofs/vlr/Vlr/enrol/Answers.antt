@@ -1,0 +1,37 @@
+use Rattle.std.proofs.Common.{◌≡◌, true, false, take, Err, sym, refl, ap, ◌∙◌, subst, rules, arith}
+use Rattle.imsi.specs.Spelling.{lawful_imsi}
+use Rattle.directory.specs.Lookup.{at, Held, Stored}
+use Rattle.station.specs.Sends.{is_worn}
+use Rattle.station.specs.declared.denial.Denial.TheVariants as denial
+use Rattle.vlr.specs.State.{state_of, whose, with_records}
+use Rattle.vlr.specs.Enrolling.{enrolled, Enrolled}
+use Rattle.vlr.proofs.Enrolls.{no_place, has_place}
+use Rattle.vlr.proofs.vlr.Vlr.enrol.Goals as goal
+
+pub returns-in-None : goal.returns-in-None
+returns-in-None c =
+    let v = c.args.self.now in
+    let s = state_of v in
+    let i = c.args.imsi in
+    let cause = c.args.home_cause in
+    let held : Held whose v.held v.places = (omega (arith, v.few, v.all), v.rising) in
+    let is = c.enrolled-after.ensures ∙ ap (enrolled i cause) (c.look-before.ensures held) in
+    let put = subst (λ r. Stored whose v.held r v.places c.store.new.places c.store.result) is (c.store.ensures held) in
+    let st = subst (λ o. Stored whose v.held (enrolled i cause (at whose (take v.held v.places) i)) v.places c.store.new.places o) c.in-None.is put in
+    let fresh : is_worn s.last ≡ false = search rules in
+    let lawful : lawful_imsi i.digits i.value ≡ true = search rules in
+    subst (λ ps. Enrolled s i cause (Err denial.NoPlace) (with_records s (take v.held ps))) (sym st.1) (no_place s i cause v.held v.places c.store.new.places v.all refl fresh lawful st)
+
+pub returns-in-Some : goal.returns-in-Some
+returns-in-Some c =
+    let v = c.args.self.now in
+    let s = state_of v in
+    let i = c.args.imsi in
+    let cause = c.args.home_cause in
+    let held : Held whose v.held v.places = (omega (arith, v.few, v.all), v.rising) in
+    let is = c.enrolled-after.ensures ∙ ap (enrolled i cause) (c.look-before.ensures held) in
+    let put = subst (λ r. Stored whose v.held r v.places c.store.new.places c.store.result) is (c.store.ensures held) in
+    let st = subst (λ o. Stored whose v.held (enrolled i cause (at whose (take v.held v.places) i)) v.places c.store.new.places o) c.in-Some.is put in
+    let fresh : is_worn s.last ≡ false = search rules in
+    let lawful : lawful_imsi i.digits i.value ≡ true = search rules in
+    has_place s _ i cause v.held c.in-Some.held v.places c.store.new.places v.all refl fresh lawful st refl

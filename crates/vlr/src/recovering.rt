@@ -1,0 +1,46 @@
+// Losing all marks, and time.
+ghost use Rattle.vlr.specs.State.{state_of};
+ghost use Rattle.vlr.specs.Calls.{Called, worn_denial};
+ghost use Rattle.vlr.specs.Recovering.{lost, resets, ticked, tick_sends};
+
+use crate::record::Doubt;
+use crate::vlr::Vlr;
+use carrier::carrier::Carrier;
+use carrier::in_order::InOrder;
+use directory::table::change_each;
+use messages::message::Message;
+use station::denial::Denial;
+use station::sending::Outgoing;
+
+impl Vlr {
+    // The register lost its marks: none is sure any more, and the SGSN is told.
+    pub fn lose<C: InOrder>(&mut self, carrier: &mut C) -> Result<(), Denial>
+        ensures { Called C.Carrier.puts (worn_denial (state_of self.old)) (state_of self.old) (lost (state_of self.old)) (resets (state_of self.old)) result carrier.old (state_of self.new) carrier.new }
+    {
+        if self.sender.is_worn() {
+            return Err(Denial::Worn);
+        }
+        change_each(&mut self.places, self.held, &Doubt {});
+        let outgoing = Outgoing {
+            to: self.sgsn.node,
+            answers: 0,
+            message: Message::Reset {
+                entity: self.sender.own,
+            },
+        };
+        let stamp = self.sender.send(carrier, outgoing);
+        self.row = self.row.lost(stamp);
+        Ok(())
+    }
+
+    // One tick: an acknowledgement that is due goes before a RESET's repeat.
+    pub fn tick<C: InOrder>(&mut self, carrier: &mut C) -> Result<(), Denial>
+        ensures { Called C.Carrier.puts (worn_denial (state_of self.old)) (state_of self.old) (ticked (state_of self.old)) (tick_sends (state_of self.old)) result carrier.old (state_of self.new) carrier.new }
+    {
+        if self.sender.is_worn() {
+            return Err(Denial::Worn);
+        }
+        self.row = self.row.tick(&mut self.sender, carrier, self.sgsn.node);
+        Ok(())
+    }
+}
