@@ -60,10 +60,8 @@ impl Record {
     pub fn unmarked(self) -> Record
         ensures { result ≡ unmarked self }
     {
-        Record {
-            mark: Mark::None,
-            ..self
-        }
+        let mark = Mark::None;
+        Record { mark, ..self }
     }
 
     // The mobile is detached here, too.
@@ -72,8 +70,7 @@ impl Record {
     {
         Record {
             attached: false,
-            mark: Mark::None,
-            ..self
+            ..self.unmarked()
         }
     }
 
