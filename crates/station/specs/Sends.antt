@@ -1,5 +1,5 @@
 -- Frames that an end sends: each takes the next stamp.
-use Rattle.std.specs.Prelude.{ℕ, ◌+◌, ◌<◌, Bool, not, ◌&&◌, List, [], ◌∷◌, map, nat_le}
+use Rattle.std.specs.Prelude.{ℕ, ◌+◌, ◌<◌, Bool, not, ◌&&◌, List, [], ◌∷◌, map, Some, None, Option, nat_le}
 use Rattle.elements.specs.declared.node.NodeNumber.{NodeNumber}
 use Rattle.frames.specs.declared.frame.Frame.{Frame}
 use Rattle.frames.specs.Format.{lawful_nodes, frame_octets}
@@ -35,3 +35,8 @@ frames_of own last (s ∷ ss) = frame_of own last s ∷ frames_of own (last + 1)
 -- these went out one after the other
 abbrev pub Sent : {C : Type 0} → (C → List ℕ → C → Type 0) → NodeNumber → ℕ → List Outgoing → C → C → Type 0
 Sent puts own last ss c d = PutsAll puts c (map frame_octets (frames_of own last ss)) d
+
+-- one message or none
+abbrev pub outgoing_in : Option Outgoing → List Outgoing
+outgoing_in None = []
+outgoing_in (Some s) = s ∷ []

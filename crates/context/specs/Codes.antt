@@ -1,0 +1,43 @@
+-- The codes of classes and kinds.
+use Rattle.std.specs.Prelude.{ℕ, Bool, true, false, cond, Some, None, Option, ◌==◌}
+use Rattle.elements.specs.declared.code.Class.{Class}
+use Rattle.elements.specs.declared.code.Class.TheVariants as voice
+use Rattle.elements.specs.declared.code.UpdateType.{UpdateType}
+use Rattle.elements.specs.declared.code.UpdateType.TheVariants as update
+use Rattle.context.specs.declared.class.ServiceClass.{ServiceClass}
+use Rattle.context.specs.declared.class.ServiceClass.TheVariants as class
+use Rattle.context.specs.declared.kind.RequestKind.{RequestKind}
+use Rattle.context.specs.declared.kind.RequestKind.TheVariants as kind
+use Rattle.context.specs.declared.kind.DetachKind.{DetachKind}
+use Rattle.context.specs.declared.kind.DetachKind.TheVariants as detach
+
+-- the one of three cases with the code 1, 2 or 3
+abbrev pub third_of : {X : Type 0} → X → X → X → ℕ → Option X
+third_of a b c n = cond (n == 1) (Some a) (cond (n == 2) (Some b) (cond (n == 3) (Some c) None))
+
+abbrev pub class_in : ℕ → Option ServiceClass
+class_in = third_of class.A class.B class.C
+
+abbrev pub request_kind_in : ℕ → Option RequestKind
+request_kind_in = third_of kind.CombinedAttach kind.ImsiAttach kind.AreaChange
+
+abbrev pub detach_kind_in : ℕ → Option DetachKind
+detach_kind_in n = cond (n == 1) (Some detach.ByMobile) (cond (n == 2) (Some detach.ByNetwork) (cond (n == 3) (Some detach.Imsi) (cond (n == 4) (Some detach.ImsiAndGprs) (cond (n == 5) (Some detach.SwitchedOff) None))))
+
+-- the class with which a mobile has voice service
+abbrev pub voice_class : ServiceClass → Option Class
+voice_class class.A = Some voice.A
+voice_class class.B = Some voice.B
+voice_class class.C = None
+
+-- the mobile gets packet service by it, too
+abbrev pub attaches : RequestKind → Bool
+attaches kind.CombinedAttach = true
+attaches kind.ImsiAttach = false
+attaches kind.AreaChange = false
+
+-- how a location update names it
+abbrev pub update_type : RequestKind → UpdateType
+update_type kind.CombinedAttach = update.ImsiAttach
+update_type kind.ImsiAttach = update.ImsiAttach
+update_type kind.AreaChange = update.Normal

@@ -1,0 +1,9 @@
+pub mod Answering
+pub mod Codes
+pub mod Contexts
+pub mod Detaching
+pub mod Errands
+pub mod Paging
+pub mod Requesting
+pub mod Sound
+pub mod Ticking

@@ -1,0 +1,44 @@
+-- What a page from a VLR makes of a mobile's record, and what is sent for it.
+use Rattle.std.specs.Prelude.{ℕ, Bool, true, false, not, cond, ◌&&◌, List, [], ◌∷◌, Some, None, Option}
+use Rattle.elements.specs.declared.code.Cause.TheVariants as cause
+use Rattle.elements.specs.declared.node.VlrNumber.{VlrNumber}
+use Rattle.elements.specs.Nodes.{same_node}
+use Rattle.messages.specs.declared.message.Message.TheVariants.{PagingFailure, MobileStatus}
+use Rattle.station.specs.declared.mark.Mark.{Mark}
+use Rattle.station.specs.declared.mark.Mark.TheVariants as mark
+use Rattle.station.specs.declared.sending.Outgoing.{Outgoing}
+use Rattle.station.specs.Marks.{node_in}
+use Rattle.context.specs.declared.context.Context.{Context}
+use Rattle.context.specs.Contexts.{has_voice}
+use Rattle.context.specs.Errands.{is_open}
+
+-- the mark names this VLR, whether it is sure or not
+abbrev pub names : VlrNumber → Mark VlrNumber → Bool
+names v mark.None = false
+names v (mark.Confirmed n) = same_node n.node v.node
+names v (mark.Unsure n) = same_node n.node v.node
+
+-- a page from this VLR tells that the mobile is another's no more
+abbrev pub moves_to : VlrNumber → Context → Bool
+moves_to v r = r.attached && (has_voice r && (not (is_open r.errand) && not (names v r.mark)))
+
+-- The page may be old, so that the VLR that sent it is not sure.
+abbrev pub now_at : VlrNumber → Context → Context
+now_at v r = record { imsi = r.imsi; class = r.class; attached = r.attached; mark = mark.Unsure v; area = r.area; errand = r.errand }
+
+-- the record after a page from this VLR
+abbrev pub paged : VlrNumber → Context → Context
+paged v r = cond (moves_to v r) (now_at v r) r
+
+-- the VLR that the mark named hears that the mobile is another's
+abbrev pub status_to : Option VlrNumber → Context → List Outgoing
+status_to None r = []
+status_to (Some w) r = record { to = w.node; answers = 0; message = MobileStatus r.imsi cause.MovedToAnotherVlr } ∷ []
+
+-- a page that cannot be carried out is answered so
+abbrev pub failure_to : VlrNumber → ℕ → Context → List Outgoing
+failure_to v n r = record { to = v.node; answers = n; message = PagingFailure r.imsi cause.NotAttached } ∷ []
+
+-- what is sent for a page from this VLR with this stamp
+abbrev pub page_sends : VlrNumber → ℕ → Context → List Outgoing
+page_sends v n r = cond r.attached (cond (moves_to v r) (status_to (node_in r.mark) r) []) (failure_to v n r)

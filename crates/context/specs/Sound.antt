@@ -1,0 +1,35 @@
+-- What holds of every record: a VLR is sure only of an attached mobile with voice service that has nothing open, and only
+-- such a mobile waits for a VLR to become sure.
+use Rattle.std.specs.Prelude.{Bool, true, not, ◌&&◌}
+use Rattle.elements.specs.declared.node.VlrNumber.{VlrNumber}
+use Rattle.station.specs.declared.mark.Mark.{Mark}
+use Rattle.station.specs.declared.mark.Mark.TheVariants as mark
+use Rattle.context.specs.declared.context.Context.{Context}
+use Rattle.context.specs.declared.errand.Errand.{Errand}
+use Rattle.context.specs.declared.errand.Errand.TheVariants as errand
+use Rattle.context.specs.declared.errand.Awaited.{Awaited}
+use Rattle.context.specs.declared.errand.Awaited.TheVariants.{Update, GprsDetach, ImsiDetach}
+use Rattle.context.specs.Errands.{is_open}
+use Rattle.context.specs.Contexts.{has_voice}
+
+-- may be sure
+abbrev pub served : Context → Bool
+served r = r.attached && has_voice r
+
+abbrev pub sound_mark : Mark VlrNumber → Context → Bool
+sound_mark mark.None r = true
+sound_mark (mark.Confirmed n) r = served r && not (is_open r.errand)
+sound_mark (mark.Unsure n) r = true
+
+abbrev pub sound_awaited : Awaited → Context → Bool
+sound_awaited (Update a) r = served r
+sound_awaited (GprsDetach t n) r = true
+sound_awaited (ImsiDetach s) r = true
+
+abbrev pub sound_errand : Errand → Context → Bool
+sound_errand errand.Idle r = true
+sound_errand (errand.Open o) r = sound_awaited o.awaited r
+sound_errand (errand.Ended v) r = true
+
+abbrev pub sound : Context → Bool
+sound r = sound_mark r.mark r && sound_errand r.errand r

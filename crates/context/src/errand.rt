@@ -1,0 +1,77 @@
+// What became of a mobile's last request or detach.
+ghost use Rattle.std.specs.Prelude.{◌≡◌};
+ghost use Rattle.context.specs.Errands.{verdict_number, is_open, owes};
+
+use elements::area::LocationArea;
+use elements::code::{GprsDetachType, RejectCause};
+use elements::node::VlrNumber;
+
+// How a request or detach ended.
+#[derive(Clone, Copy, Debug, PartialEq, Eq)]
+pub enum Verdict {
+    // as it was asked
+    Done,
+    // the VLR turned the mobile away
+    Rejected(RejectCause),
+    // the VLR did not respond in time
+    NotResponding,
+}
+
+impl Verdict {
+    // The number by which users know this verdict.
+    pub fn number(self) -> u8
+        ensures { result ≡ verdict_number self }
+    {
+        match self {
+            Verdict::Done => 1,
+            Verdict::Rejected(_) => 2,
+            Verdict::NotResponding => 3,
+        }
+    }
+}
+
+// What the VLR is to answer.
+#[derive(Clone, Copy, Debug, PartialEq, Eq)]
+pub enum Awaited {
+    // the location update of a mobile that entered this area
+    Update { new_area: LocationArea },
+    // the end of packet service, which can be told so often again
+    GprsDetach { detach: GprsDetachType, repeats: u8 },
+    // the end of voice service; whether packet service stays
+    ImsiDetach { stays: bool },
+}
+
+// A request or detach without a verdict: what went to which VLR, and how long its answer may take.
+#[derive(Clone, Copy, Debug, PartialEq, Eq)]
+pub struct Open {
+    pub vlr: VlrNumber,
+    // of the frame that went out, or of its last repeat
+    pub stamp: u32,
+    // ticks left
+    pub ticks: u8,
+    pub awaited: Awaited,
+}
+
+// A reply is owed to the mobile unless it is idle.
+#[derive(Clone, Copy, Debug, PartialEq, Eq)]
+pub enum Errand {
+    Idle,
+    Open(Open),
+    Ended(Verdict),
+}
+
+impl Errand {
+    // Is a verdict still to come?
+    pub fn is_open(self) -> bool
+        ensures { result ≡ is_open self }
+    {
+        matches!(self, Errand::Open(_))
+    }
+
+    // Is a reply owed?
+    pub fn owes(self) -> bool
+        ensures { result ≡ owes self }
+    {
+        !matches!(self, Errand::Idle)
+    }
+}

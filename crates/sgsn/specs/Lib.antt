@@ -1,0 +1,10 @@
+pub mod Delivering
+pub mod Detaching
+pub mod Enrolling
+pub mod Fitting
+pub mod Making
+pub mod Peers
+pub mod Recovering
+pub mod Requesting
+pub mod Settling
+pub mod State
