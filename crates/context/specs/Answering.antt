@@ -6,7 +6,6 @@ use Rattle.elements.specs.declared.node.VlrNumber.{VlrNumber}
 use Rattle.elements.specs.Nodes.{same_node}
 use Rattle.messages.specs.declared.message.Message.{Message}
 use Rattle.messages.specs.declared.message.Message.TheVariants.{Paging, PagingFailure, MobileStatus, LuRequest, LuAccept, LuReject, Reset, ResetAcknowledge, GprsDetachIndication, GprsDetachAcknowledge, ImsiDetachIndication, ImsiDetachAcknowledge}
-use Rattle.station.specs.declared.mark.Mark.{Mark}
 use Rattle.station.specs.declared.mark.Mark.TheVariants as mark
 use Rattle.context.specs.declared.context.Context.{Context}
 use Rattle.context.specs.declared.errand.Errand.{Errand}

@@ -1,5 +1,5 @@
 -- What an SGSN keeps of a mobile, and the changes of that which no answer makes.
-use Rattle.std.specs.Prelude.{Bool, true, false, cond, ◌&&◌, is_some, None}
+use Rattle.std.specs.Prelude.{Bool, true, false, cond, is_some, None}
 use Rattle.imsi.specs.declared.Imsi.{Imsi}
 use Rattle.elements.specs.declared.node.VlrNumber.{VlrNumber}
 use Rattle.elements.specs.Nodes.{same_node}

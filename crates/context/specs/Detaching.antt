@@ -1,5 +1,5 @@
 -- What a detach makes of a mobile's record, and what goes to the VLR.
-use Rattle.std.specs.Prelude.{ℕ, Bool, true, false, cond, ◌&&◌, List, [], ◌∷◌, Some, None, Option, ◌==◌}
+use Rattle.std.specs.Prelude.{ℕ, true, false, List, [], ◌∷◌, Some, None, Option}
 use Rattle.imsi.specs.declared.Imsi.{Imsi}
 use Rattle.elements.specs.declared.code.GprsDetachType.TheVariants as gprs
 use Rattle.elements.specs.declared.code.ImsiDetachType.TheVariants as imsi

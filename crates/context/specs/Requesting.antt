@@ -1,7 +1,6 @@
 -- What a request makes of a mobile's record, and what goes to the VLR.
 use Rattle.std.specs.Prelude.{ℕ, Bool, true, false, cond, ◌&&◌, ◌||◌, List, [], ◌∷◌, Some, None, Option}
 use Rattle.elements.specs.declared.code.Class.{Class}
-use Rattle.elements.specs.declared.node.VlrNumber.{VlrNumber}
 use Rattle.messages.specs.declared.message.Message.TheVariants.{LuRequest}
 use Rattle.station.specs.declared.mark.Mark.TheVariants as mark
 use Rattle.station.specs.declared.sending.Outgoing.{Outgoing}

@@ -1,5 +1,5 @@
 -- One tick of a mobile's open request or detach.
-use Rattle.std.specs.Prelude.{ℕ, ◌-◌, ◌+◌, Bool, true, false, cond, List, [], ◌∷◌, ◌==◌, nat_le}
+use Rattle.std.specs.Prelude.{ℕ, ◌-◌, ◌+◌, Bool, false, cond, List, [], ◌∷◌, ◌==◌, nat_le}
 use Rattle.elements.specs.declared.code.GprsDetachType.{GprsDetachType}
 use Rattle.messages.specs.declared.message.Message.TheVariants.{GprsDetachIndication}
 use Rattle.station.specs.declared.sending.Outgoing.{Outgoing}

@@ -1,6 +1,5 @@
 -- What a frame does at an SGSN.
-use Rattle.std.specs.Prelude.{ℕ, ◌+◌, Bool, true, cond, List, [], map, Some, None, Option, Result}
-use Rattle.imsi.specs.declared.Imsi.{Imsi}
+use Rattle.std.specs.Prelude.{ℕ, Bool, true, cond, List, [], map, Some, None, Option, Result}
 use Rattle.elements.specs.declared.node.NodeNumber.{NodeNumber}
 use Rattle.frames.specs.declared.frame.Frame.{Frame}
 use Rattle.messages.specs.declared.message.Message.{Message}

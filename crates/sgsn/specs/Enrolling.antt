@@ -1,5 +1,5 @@
 -- Enrolling a mobile, and giving it packet service.
-use Rattle.std.specs.Prelude.{ℕ, Bool, not, is_some, Some, None, Option}
+use Rattle.std.specs.Prelude.{ℕ, not, is_some, Some, None, Option}
 use Rattle.imsi.specs.declared.Imsi.{Imsi}
 use Rattle.imsi.specs.Spelling.{lawful_imsi}
 use Rattle.directory.specs.Lookup.{fits}

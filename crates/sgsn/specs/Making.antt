@@ -1,6 +1,6 @@
 -- A new SGSN: with one to four VLRs, all numbers lawful and different.
-use Rattle.std.specs.Prelude.{◌≡◌, ℕ, Bool, true, false, not, cond, ◌&&◌, List, [], ◌∷◌, map, length, Ok, Err, Result, nat_le, nat_lt}
-use Rattle.std.specs.List.{list_all, list_any}
+use Rattle.std.specs.Prelude.{◌≡◌, Bool, true, false, not, cond, ◌&&◌, List, [], ◌∷◌, map, length, Ok, Err, Result, nat_le, nat_lt}
+use Rattle.std.specs.List.{list_all}
 use Rattle.elements.specs.declared.node.NodeNumber.{NodeNumber}
 use Rattle.elements.specs.declared.node.SgsnNumber.{SgsnNumber}
 use Rattle.elements.specs.declared.node.VlrNumber.{VlrNumber}

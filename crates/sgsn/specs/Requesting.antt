@@ -1,5 +1,5 @@
 -- A request: a mobile that is to be served by a VLR.
-use Rattle.std.specs.Prelude.{ℕ, ◌+◌, Bool, not, ◌||◌, List, [], Some, None, Option}
+use Rattle.std.specs.Prelude.{◌+◌, not, ◌||◌, List, [], Some, None, Option}
 use Rattle.imsi.specs.declared.Imsi.{Imsi}
 use Rattle.imsi.specs.Spelling.{lawful_imsi}
 use Rattle.station.specs.declared.denial.Denial.{Denial}

@@ -1,5 +1,5 @@
 -- Settling what a mobile is owed.
-use Rattle.std.specs.Prelude.{◌≡◌, ℕ, Bool, cond, Ok, Err, Some, None, Option, Result}
+use Rattle.std.specs.Prelude.{Bool, cond, Ok, Err, Some, None, Option, Result}
 use Rattle.imsi.specs.declared.Imsi.{Imsi}
 use Rattle.station.specs.declared.denial.Denial.{Denial}
 use Rattle.station.specs.declared.denial.Denial.TheVariants as denial

@@ -1,5 +1,5 @@
 -- What an SGSN is: its number and last stamp, its VLRs with what it keeps of each, and its records in order.
-use Rattle.std.specs.Prelude.{ℕ, ◌+◌, Bool, List, map, length, take, Some, None, Option}
+use Rattle.std.specs.Prelude.{ℕ, ◌+◌, List, map, length, take, Option}
 use Rattle.imsi.specs.declared.Imsi.{Imsi}
 use Rattle.elements.specs.declared.node.NodeNumber.{NodeNumber}
 use Rattle.elements.specs.declared.node.VlrNumber.{VlrNumber}

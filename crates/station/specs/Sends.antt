@@ -1,8 +1,9 @@
 -- Frames that an end sends: each takes the next stamp.
-use Rattle.std.specs.Prelude.{ℕ, ◌+◌, ◌<◌, Bool, not, ◌&&◌, List, [], ◌∷◌, map, Some, None, Option, nat_le}
+use Rattle.std.specs.Prelude.{◌≡◌, ℕ, ◌+◌, ◌<◌, Bool, true, not, ◌&&◌, List, [], ◌∷◌, map, Some, None, Option, nat_le}
+use Rattle.std.specs.List.{list_all}
 use Rattle.elements.specs.declared.node.NodeNumber.{NodeNumber}
 use Rattle.frames.specs.declared.frame.Frame.{Frame}
-use Rattle.frames.specs.Format.{lawful_nodes, frame_octets}
+use Rattle.frames.specs.Format.{lawful_nodes, lawful_frame, frame_octets}
 use Rattle.carrier.specs.Chains.{PutsAll}
 use Rattle.messages.specs.Lawful.{lawful_message}
 use Rattle.station.specs.declared.sending.Outgoing.{Outgoing}
@@ -32,9 +33,9 @@ abbrev pub frames_of : NodeNumber → ℕ → List Outgoing → List Frame
 frames_of own last [] = []
 frames_of own last (s ∷ ss) = frame_of own last s ∷ frames_of own (last + 1) ss
 
--- these went out one after the other
+-- these went out one after the other, each as a lawful frame
 abbrev pub Sent : {C : Type 0} → (C → List ℕ → C → Type 0) → NodeNumber → ℕ → List Outgoing → C → C → Type 0
-Sent puts own last ss c d = PutsAll puts c (map frame_octets (frames_of own last ss)) d
+Sent puts own last ss c d = PutsAll puts c (map frame_octets (frames_of own last ss)) d × (list_all lawful_frame (frames_of own last ss) ≡ true)
 
 -- one message or none
 abbrev pub outgoing_in : Option Outgoing → List Outgoing

@@ -1,4 +1,5 @@
-use Rattle.std.proofs.Common.{◌≡◌, ◌+◌, ◌<◌, replicate, sym, ◌∙◌, arith, rules}
+use Rattle.std.proofs.Common.{◌≡◌, ◌+◌, ◌<◌, replicate, sym, refl, ◌∙◌, arith, rules}
+use Rattle.std.proofs.lemmas.Bool.{and_from}
 use native.Mathlib.Nat.{sub-zero}
 use Rattle.std.proofs.lemmas.Grind.{common_steps}
 use Rattle.frames.specs.Writing.{frame_written, frame_left}
@@ -20,6 +21,6 @@ returns-clause-sent g c room may =
     elim c.match-write_frame.branch [
       | in-Ok w ↦
           let octets = front f (replicate 64 0) c.write_frame.new.buffer w.in-Ok.size lawful (omega arith) (sym w.in-Ok.is ∙ written) left in
-          (w.put.new.self, rw (sub-zero w.in-Ok.size, octets) at w.put.ensures.puts, sym w.carrier-is)
+          ((w.put.new.self, rw (sub-zero w.in-Ok.size, octets) at w.put.ensures.puts, sym w.carrier-is), and_from _ _ lawful refl)
       | in_default w ↦ grind (arith, common_steps, written, lawful)
     ]
