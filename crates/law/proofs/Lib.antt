@@ -1,0 +1,4 @@
+pub mod Pairs
+pub mod Premises
+pub mod SgsnMoves
+pub mod VlrMoves

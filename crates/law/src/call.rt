@@ -1,0 +1,69 @@
+// Calls as plain values, and what they are answered.
+use context::errand::Verdict;
+use context::kind::Request;
+use elements::fault::Fault;
+use elements::node::{NodeNumber, VlrNumber};
+use imsi::Imsi;
+use station::denial::Denial;
+use station::receiving::Delivery;
+
+// Numbers and codes are as they come from outside: the ends refuse what is none.
+#[derive(Clone, Copy, Debug, PartialEq, Eq)]
+pub enum Call {
+    // at the SGSN
+    Enrol {
+        imsi: Imsi,
+        class: u8,
+    },
+    Attach {
+        imsi: Imsi,
+    },
+    Request {
+        imsi: Imsi,
+        request: Request,
+    },
+    Detach {
+        imsi: Imsi,
+        kind: u8,
+    },
+    Settle {
+        imsi: Imsi,
+    },
+    // at a VLR
+    EnrolAtVlr {
+        vlr: VlrNumber,
+        imsi: Imsi,
+        home_cause: u8,
+    },
+    Page {
+        vlr: VlrNumber,
+        imsi: Imsi,
+        tmsi: Option<u32>,
+        channel: Option<u8>,
+    },
+    // at either
+    Lose {
+        node: NodeNumber,
+    },
+    Deliver {
+        node: NodeNumber,
+    },
+    Tick {
+        node: NodeNumber,
+    },
+}
+
+#[derive(Clone, Copy, Debug, PartialEq, Eq)]
+pub enum Answer {
+    // the call was made, and has no more to tell
+    Done,
+    // a settled reply
+    Verdict(Verdict),
+    // what a delivery brought about
+    Delivered(Delivery),
+    // what a delivery took was no frame
+    Faulty(Fault),
+    Denied(Denial),
+    // no such node is here
+    NoSuchNode,
+}
