@@ -1,0 +1,116 @@
+-- Each move of a mobile's record leaves one that an SGSN may keep, and what is sent for it may go.
+use Rattle.std.proofs.Common.{◌≡◌, ℕ, Bool, true, ◌||◌, List, map, Some, Option}
+use Rattle.std.specs.List.{list_all}
+use Rattle.imsi.specs.declared.Imsi.{Imsi}
+use Rattle.imsi.specs.Spelling.{lawful_imsi}
+use Rattle.elements.specs.declared.node.NodeNumber.{NodeNumber}
+use Rattle.elements.specs.declared.node.VlrNumber.{VlrNumber}
+use Rattle.messages.specs.declared.message.Message.{Message}
+use Rattle.messages.specs.Lawful.{lawful_area}
+use Rattle.frames.specs.declared.frame.Frame.{Frame}
+use Rattle.frames.specs.Format.{lawful_nodes}
+use Rattle.directory.specs.Lookup.{at, stored}
+use Rattle.station.specs.declared.row.Row.{Row}
+use Rattle.station.specs.Sends.{may_go}
+use Rattle.context.specs.declared.class.ServiceClass.{ServiceClass}
+use Rattle.context.specs.declared.context.Context.{Context}
+use Rattle.context.specs.declared.errand.Errand.TheVariants as errand
+use Rattle.context.specs.declared.errand.Open.{Open}
+use Rattle.context.specs.declared.kind.Request.{Request}
+use Rattle.context.specs.declared.kind.RequestKind.{RequestKind}
+use Rattle.context.specs.declared.kind.DetachKind.{DetachKind}
+use Rattle.context.specs.Codes.{attaches}
+use Rattle.context.specs.Contexts.{whose, has_voice, new_context, attached_now, doubtful, doubtful_at}
+use Rattle.context.specs.Requesting.{requested, request_sends}
+use Rattle.context.specs.Detaching.{detached, detach_sends}
+use Rattle.context.specs.Answering.{answered}
+use Rattle.context.specs.Paging.{paged, page_sends}
+use Rattle.context.specs.Ticking.{expired, context_ticked, context_sends}
+use Rattle.sgsn.specs.declared.peer.Peer.{Peer}
+use Rattle.sgsn.specs.Fitting.{is_one_of, fits_in}
+use Rattle.sgsn.specs.Peers.{row_changed, peers_lost, peers_ticked, doubted_by_all}
+use Rattle.sgsn.specs.Recovering.{records_ticked, records_sends}
+use Rattle.sgsn.specs.Settling.{settled_errand}
+
+pub fits_at : (vs : List VlrNumber) (xs : List Context) (i : Imsi) (r : Context) → list_all (fits_in vs) xs ≡ true → at whose xs i ≡ Some r → fits_in vs r ≡ true
+fits_at vs xs i r f e = ?
+
+pub fits_stored : (vs : List VlrNumber) (r : Context) (xs : List Context) → list_all (fits_in vs) xs ≡ true → fits_in vs r ≡ true → list_all (fits_in vs) (stored whose r xs) ≡ true
+fits_stored vs r xs f g = ?
+
+pub fits_map : (vs : List VlrNumber) (f : Context → Context) (xs : List Context) → ((r : Context) → fits_in vs r ≡ true → fits_in vs (f r) ≡ true) → list_all (fits_in vs) xs ≡ true → list_all (fits_in vs) (map f xs) ≡ true
+fits_map vs f xs keeps g = ?
+
+pub fits_new : (vs : List VlrNumber) (i : Imsi) (c : ServiceClass) → lawful_imsi i.digits i.value ≡ true → fits_in vs (new_context i c) ≡ true
+fits_new vs i c l = ?
+
+pub fits_attached : (vs : List VlrNumber) (r : Context) → fits_in vs r ≡ true → fits_in vs (attached_now r) ≡ true
+fits_attached vs r f = ?
+
+pub fits_doubtful : (vs : List VlrNumber) (r : Context) → fits_in vs r ≡ true → fits_in vs (doubtful r) ≡ true
+fits_doubtful vs r f = ?
+
+pub fits_doubtful_at : (vs : List VlrNumber) (v : VlrNumber) (r : Context) → fits_in vs r ≡ true → fits_in vs (doubtful_at v r) ≡ true
+fits_doubtful_at vs v r f = ?
+
+pub fits_expired : (vs : List VlrNumber) (o : Open) (r : Context) → r.errand ≡ errand.Open o → fits_in vs r ≡ true → fits_in vs (expired o r) ≡ true
+fits_expired vs o r e f = ?
+
+pub fits_settled : (vs : List VlrNumber) (r : Context) → fits_in vs r ≡ true → fits_in vs (settled_errand r.errand r) ≡ true
+fits_settled vs r f = ?
+
+pub fits_requested : (vs : List VlrNumber) (k : RequestKind) (q : Request) (n : ℕ) (r : Context) → fits_in vs r ≡ true → has_voice r ≡ true → is_one_of vs q.vlr ≡ true → (attaches k || r.attached) ≡ true → fits_in vs (requested k q n r) ≡ true
+fits_requested vs k q n r f voice its has = ?
+
+pub fits_detached : (vs : List VlrNumber) (k : DetachKind) (n : ℕ) (r : Context) → fits_in vs r ≡ true → fits_in vs (detached k n r) ≡ true
+fits_detached vs k n r f = ?
+
+pub fits_answered : (vs : List VlrNumber) (v : VlrNumber) (n : ℕ) (reset : Option ℕ) (m : Message) (r : Context) → fits_in vs r ≡ true → fits_in vs (answered v n reset m r) ≡ true
+fits_answered vs v n reset m r f = ?
+
+pub fits_paged : (vs : List VlrNumber) (v : VlrNumber) (r : Context) → fits_in vs r ≡ true → is_one_of vs v ≡ true → fits_in vs (paged v r) ≡ true
+fits_paged vs v r f its = ?
+
+pub fits_ticked : (vs : List VlrNumber) (last : ℕ) (r : Context) → fits_in vs r ≡ true → fits_in vs (context_ticked last r) ≡ true
+fits_ticked vs last r f = ?
+
+pub fits_all_ticked : (vs : List VlrNumber) (last : ℕ) (rs : List Context) → list_all (fits_in vs) rs ≡ true → list_all (fits_in vs) (records_ticked last rs) ≡ true
+fits_all_ticked vs last rs f = ?
+
+pub fits_doubted : (vs : List VlrNumber) (ps : List Peer) (rs : List Context) → list_all (fits_in vs) rs ≡ true → list_all (fits_in vs) (doubted_by_all ps rs) ≡ true
+fits_doubted vs ps rs f = ?
+
+-- what changes what is kept of a VLR leaves its number
+pub vlrs_changed : (f : Frame) (g : Row → Row) (ps : List Peer) → map (λ p. p.vlr) (row_changed f g ps) ≡ map (λ p. p.vlr) ps
+vlrs_changed f g ps = ?
+
+pub vlrs_lost : (last : ℕ) (ps : List Peer) → map (λ p. p.vlr) (peers_lost last ps) ≡ map (λ p. p.vlr) ps
+vlrs_lost last ps = ?
+
+pub vlrs_ticked : (own : NodeNumber) (last : ℕ) (ps : List Peer) → map (λ p. p.vlr) (peers_ticked own last ps) ≡ map (λ p. p.vlr) ps
+vlrs_ticked own last ps = ?
+
+-- this node can send to each of them
+abbrev pub reaches : NodeNumber → List VlrNumber → Bool
+reaches own vs = list_all (λ v. lawful_nodes own v.node) vs
+
+pub reach_peers : (own : NodeNumber) (ps : List Peer) → list_all (λ p. lawful_nodes own p.vlr.node) ps ≡ true → reaches own (map (λ p. p.vlr) ps) ≡ true
+reach_peers own ps e = ?
+
+pub reach_one : (own : NodeNumber) (vs : List VlrNumber) (v : VlrNumber) → reaches own vs ≡ true → is_one_of vs v ≡ true → lawful_nodes own v.node ≡ true
+reach_one own vs v all its = ?
+
+pub may_request : (own : NodeNumber) (vs : List VlrNumber) (k : RequestKind) (q : Request) (r : Context) → reaches own vs ≡ true → fits_in vs r ≡ true → is_one_of vs q.vlr ≡ true → lawful_area q.old_area ≡ true → lawful_area q.new_area ≡ true → list_all (may_go own) (request_sends k q r) ≡ true
+may_request own vs k q r all f its old new = ?
+
+pub may_detach : (own : NodeNumber) (vs : List VlrNumber) (k : DetachKind) (r : Context) → reaches own vs ≡ true → fits_in vs r ≡ true → list_all (may_go own) (detach_sends k r) ≡ true
+may_detach own vs k r all f = ?
+
+pub may_page : (own : NodeNumber) (vs : List VlrNumber) (v : VlrNumber) (n : ℕ) (r : Context) → reaches own vs ≡ true → fits_in vs r ≡ true → is_one_of vs v ≡ true → list_all (may_go own) (page_sends v n r) ≡ true
+may_page own vs v n r all f its = ?
+
+pub may_tick : (own : NodeNumber) (vs : List VlrNumber) (r : Context) → reaches own vs ≡ true → fits_in vs r ≡ true → list_all (may_go own) (context_sends r) ≡ true
+may_tick own vs r all f = ?
+
+pub may_all_tick : (own : NodeNumber) (vs : List VlrNumber) (rs : List Context) → reaches own vs ≡ true → list_all (fits_in vs) rs ≡ true → list_all (may_go own) (records_sends rs) ≡ true
+may_all_tick own vs rs all f = ?
