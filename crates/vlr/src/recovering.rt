@@ -2,6 +2,7 @@
 ghost use Rattle.vlr.specs.State.{state_of};
 ghost use Rattle.vlr.specs.Calls.{Called, worn_denial};
 ghost use Rattle.vlr.specs.Recovering.{lost, resets, ticked, tick_sends};
+ghost use Rattle.vlr.specs.Laws.{ByMobile, by_loss};
 
 use crate::record::Doubt;
 use crate::vlr::Vlr;
@@ -15,7 +16,8 @@ use station::sending::Outgoing;
 impl Vlr {
     // The register lost its marks: none is sure any more, and the SGSN is told.
     pub fn lose<C: InOrder>(&mut self, carrier: &mut C) -> Result<(), Denial>
-        ensures { Called C.Carrier.puts (worn_denial (state_of self.old)) (state_of self.old) (lost (state_of self.old)) (resets (state_of self.old)) result carrier.old (state_of self.new) carrier.new }
+        ensures called { Called C.Carrier.puts (worn_denial (state_of self.old)) (state_of self.old) (lost (state_of self.old)) (resets (state_of self.old)) result carrier.old (state_of self.new) carrier.new }
+        ensures by_mobile { ByMobile (state_of self.old) (state_of self.new) (by_loss (state_of self.old)) }
     {
         if self.sender.is_worn() {
             return Err(Denial::Worn);
