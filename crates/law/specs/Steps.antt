@@ -100,13 +100,13 @@ module _ {C : Type 0} (takes : C → NodeNumber → Option (List ℕ) → C → 
   pub record VlrEnrols (i : Imsi) (cause : ℕ) (a : Answer) (v : vlr.State) (c : C) (w : vlr.State) (d : C) : Type 0 where
     pub result : Result Unit Denial
     pub answered : a ≡ called result
-    pub decided : vlr_enrol.Enrolled v i cause result w
+    pub decided : Decided (vlr_enrol.enrol_denial v i) tt v (vlr_enrol.with_enrolled v i cause) result w
     pub carrier : d ≡ c
 
   pub record VlrCalls (denial : Option Denial) (after : vlr.State) (os : List Outgoing) (a : Answer) (v : vlr.State) (c : C) (w : vlr.State) (d : C) : Type 0 where
     pub result : Result Unit Denial
     pub answered : a ≡ called result
-    pub made : vlr_call.Called puts denial v after os result c w d
+    pub made : Called vlr.own_of vlr.last_of puts denial tt v after os result c w d
 
   pub record VlrDelivers (a : Answer) (v : vlr.State) (c : C) (w : vlr.State) (d : C) : Type 0 where
     pub result : Result Delivery Refusal

@@ -16,7 +16,7 @@ use Rattle.vlr.specs.State.{State, whose}
 use Rattle.vlr.specs.Delivering.{changed, records_after, taken}
 use Rattle.vlr.specs.Recovering.{lost}
 use Rattle.station.specs.declared.denial.Denial.{Denial}
-use Rattle.vlr.specs.Calls.{Decided}
+use Rattle.station.specs.Calls.{Decided}
 use Rattle.vlr.specs.Enrolling.{enrolled, enrol_denial, with_enrolled}
 use Rattle.vlr.specs.Laws.{record_at, by_message, by_enrolment, if_about, unless_denied, ByMobile}
 use Rattle.vlr.proofs.Enrolls.{its_own}
@@ -90,9 +90,9 @@ enrolled-at s i c m =
     ∙ its_record s i m (at whose s.records i) (λ o. Some (enrolled i c o)) (at whose s.records m) (same m i) refl refl
 
 -- what a call that is not denied does is so after any call, unless it is denied
-decided_at : (s t after : State) (f : Imsi → Option Record → Option Record) (d : Option Denial) (r : Result Unit Denial) → ByMobile s after f → Decided d s after r t → ByMobile s t (λ m o. unless_denied d o (f m o))
+decided_at : (s t after : State) (f : Imsi → Option Record → Option Record) (d : Option Denial) (r : Result Unit Denial) → ByMobile s after f → Decided d tt s after r t → ByMobile s t (λ m o. unless_denied d o (f m o))
 decided_at s t after f (Some d) r law is = λ m. ap (λ x. record_at x m) is.1
 decided_at s t after f None r law is = λ m. ap (λ x. record_at x m) is.1 ∙ law m
 
-pub enrolment : (s t : State) (i : Imsi) (c : ℕ) (r : Result Unit Denial) → Decided (enrol_denial s i) s (with_enrolled s i c) r t → ByMobile s t (by_enrolment s i c)
+pub enrolment : (s t : State) (i : Imsi) (c : ℕ) (r : Result Unit Denial) → Decided (enrol_denial s i) tt s (with_enrolled s i c) r t → ByMobile s t (by_enrolment s i c)
 enrolment s t i c r is = decided_at s t (with_enrolled s i c) (λ m o. cond (same m i) (Some (enrolled i c o)) o) (enrol_denial s i) r (enrolled-at s i c) is

@@ -7,7 +7,7 @@ use Rattle.directory.proofs.Lookups.{at-whose}
 use Rattle.station.specs.declared.denial.Denial.TheVariants as denial
 use Rattle.station.specs.Sends.{is_worn}
 use Rattle.vlr.specs.declared.record.Record.{Record}
-use Rattle.vlr.specs.Calls.{unless}
+use Rattle.station.specs.Calls.{unless}
 use Rattle.vlr.specs.State.{State, whose, with_records}
 use Rattle.vlr.specs.Enrolling.{enrolled, enrol_denial, places, with_enrolled}
 

@@ -9,7 +9,7 @@ use Rattle.station.specs.Sends.{is_worn}
 use Rattle.vlr.specs.declared.record.Record.{Record}
 use Rattle.vlr.specs.Records.{new_record, with_home_cause}
 use Rattle.vlr.specs.State.{State, whose, with_records}
-use Rattle.vlr.specs.Calls.{unless}
+use Rattle.station.specs.Calls.{unless}
 
 -- this many places
 abbrev pub places : ℕ
