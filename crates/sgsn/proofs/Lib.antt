@@ -1,1 +1,4 @@
 pub mod Fits
+pub mod Senders
+pub mod Keeps
+pub mod Delivers
