@@ -1,5 +1,6 @@
 -- A frame that one of its VLRs sent is taken; any other has no effect.
-use Rattle.std.proofs.Common.{◌≡◌, ℕ, false, List, Some, None, Ok, Option, sym, refl, ap, subst}
+use Rattle.std.proofs.Common.{◌≡◌, ℕ, false, List, Some, None, Ok, Option, Result, sym, refl, ap, ◌∙◌, subst}
+use Rattle.elements.specs.declared.fault.Fault.{Fault}
 use Rattle.elements.specs.declared.node.NodeNumber.{NodeNumber}
 use Rattle.frames.specs.declared.frame.Frame.{Frame}
 use Rattle.station.specs.declared.receiving.Delivery.{Delivery}
@@ -10,6 +11,10 @@ use Rattle.sgsn.specs.declared.peer.Peer.{Peer}
 use Rattle.sgsn.specs.Peers.{peer_from}
 use Rattle.sgsn.specs.State.{State, own_of, last_of}
 use Rattle.sgsn.specs.Delivering.{taken_by, sends_by, answer_by, taken, sends, answer, moved_by_frame, sends_by_frame, answer_by_frame, Delivers}
+
+pub read_as : {C : Type 0} (takes : C → NodeNumber → Option (List ℕ) → C → Type 0) (own : NodeNumber) (o : Option (Result Frame Fault)) (r : Result Frame Fault) (f : Frame) (c m : C)
+    → o ≡ Some r → r ≡ Ok f → Received takes own o c m → Received takes own (Some (Ok f)) c m
+read_as takes own o r f c m some ok received = subst (λ x. Received takes own x c m) (some ∙ ap Some ok) received
 
 module _ {C : Type 0} (takes : C → NodeNumber → Option (List ℕ) → C → Type 0) (puts : C → List ℕ → C → Type 0) (s : State) (c m : C) (f : Frame) where
   asked : (a : Delivery) (t : State) (d : C) → is_worn s.last ≡ false → Received takes s.own (Some (Ok f)) c m → t ≡ moved_by_frame s f → Sent puts s.own s.last (sends_by_frame s f) m d → a ≡ answer_by_frame s f → Delivers takes puts (Ok a) s c t d

@@ -30,7 +30,7 @@ impl Sgsn {
         change_each(&mut self.places, self.held, &DoubtAt { vlr });
     }
 
-    // Keeps this of the VLR that stands there.
+    // Keeps this of the VLR at `i`.
     fn keep_row(&mut self, i: usize, row: Row)
         requires { i < self.old.count }
         ensures { state_of self.new ≡ with_row_at (state_of self.old) i row }
@@ -38,21 +38,31 @@ impl Sgsn {
         set_row(&mut self.peers, i, row);
     }
 
-    // Takes the message of a frame from this VLR as the answer that its mobile's record may wait for.
-    fn answer(&mut self, peer: Peer, frame: Frame)
-        ensures { state_of self.new ≡ answered_by (state_of self.old) frame peer (noted (state_of self.old) frame.message) }
+    // Takes a RESET from this VLR, the one at `i`: it is sure of no mobile, and is told later that the RESET came.
+    fn take_reset(&mut self, i: usize, peer: Peer, frame: Frame)
+        requires { SentBy frame i peer (state_of self.old).peers }
+        ensures { state_of self.new ≡ reset_by (state_of self.old) frame peer }
     {
-        let Some(imsi) = mobile_in(frame.message) else {
-            return;
-        };
-        let Some(before) = self.record_of(imsi) else {
-            return;
-        };
-        self.keep(before.answered(peer.vlr, frame.answers, peer.row.reset, frame.message));
+        self.doubt_at(peer.vlr);
+        self.keep_row(i, peer.row.reset_taken(frame.stamp));
     }
 
-    // Takes a page from this VLR, and tells whether the radio side is to page the mobile.
-    fn page<C: InOrder>(&mut self, carrier: &mut C, peer: Peer, frame: Frame, imsi: Imsi) -> bool
+    // Takes a RESET_ACKNOWLEDGE from this VLR, the one at `i`.
+    fn take_acknowledgement(&mut self, i: usize, peer: Peer, frame: Frame)
+        requires { SentBy frame i peer (state_of self.old).peers }
+        ensures { state_of self.new ≡ acknowledged_by (state_of self.old) frame }
+    {
+        self.keep_row(i, peer.row.acknowledged(frame.answers));
+    }
+
+    // Takes a page of a mobile from this VLR, and tells whether the radio side is to page the mobile.
+    fn take_page<C: InOrder>(
+        &mut self,
+        carrier: &mut C,
+        peer: Peer,
+        frame: Frame,
+        imsi: Imsi,
+    ) -> bool
         requires its { is_one_of (vlrs_of (state_of self.old)) peer.vlr ≡ true }
         requires stamps { HasStamps 1 self.old.sender }
         ensures state { state_of self.new ≡ paged_by (state_of self.old) frame peer (record_at (state_of self.old) imsi) }
@@ -67,24 +77,20 @@ impl Sgsn {
         before.attached
     }
 
-    // Takes a RESET from this VLR, which stands there: it is sure of no mobile, and the RESET is acknowledged later.
-    fn reset(&mut self, i: usize, peer: Peer, frame: Frame)
-        requires { SentBy frame i peer (state_of self.old).peers }
-        ensures { state_of self.new ≡ reset_by (state_of self.old) frame peer }
+    // Takes any other message from this VLR: it may be the answer that its mobile's record waits for.
+    fn take_answer(&mut self, peer: Peer, frame: Frame)
+        ensures { state_of self.new ≡ answered_by (state_of self.old) frame peer (noted (state_of self.old) frame.message) }
     {
-        self.doubt_at(peer.vlr);
-        self.keep_row(i, peer.row.reset_taken(frame.stamp));
+        let Some(imsi) = mobile_in(frame.message) else {
+            return;
+        };
+        let Some(before) = self.record_of(imsi) else {
+            return;
+        };
+        self.keep(before.answered(peer.vlr, frame.answers, peer.row.reset, frame.message));
     }
 
-    // Takes a RESET_ACKNOWLEDGE from this VLR, which stands there.
-    fn acknowledge(&mut self, i: usize, peer: Peer, frame: Frame)
-        requires { SentBy frame i peer (state_of self.old).peers }
-        ensures { state_of self.new ≡ acknowledged_by (state_of self.old) frame }
-    {
-        self.keep_row(i, peer.row.acknowledged(frame.answers));
-    }
-
-    // Takes a frame from this VLR, which stands there.
+    // Takes a frame from this VLR, the one at `i`.
     fn take<C: InOrder>(&mut self, carrier: &mut C, i: usize, peer: Peer, frame: Frame) -> Delivery
         requires sender { SentBy frame i peer (state_of self.old).peers }
         requires stamps { HasStamps 1 self.old.sender }
@@ -93,34 +99,24 @@ impl Sgsn {
         ensures answer { result ≡ answer_by (state_of self.old) frame.message }
     {
         match frame.message {
-            Message::Reset { .. } => {
-                self.reset(i, peer, frame);
-                Delivery::Done
-            }
-            Message::ResetAcknowledge { .. } => {
-                self.acknowledge(i, peer, frame);
-                Delivery::Done
-            }
             Message::Paging {
                 imsi,
                 tmsi,
                 channel,
             } => {
-                if self.page(carrier, peer, frame, imsi) {
-                    Delivery::PageOrder {
+                if self.take_page(carrier, peer, frame, imsi) {
+                    return Delivery::PageOrder {
                         imsi,
                         tmsi,
                         channel,
-                    }
-                } else {
-                    Delivery::Done
+                    };
                 }
             }
-            _ => {
-                self.answer(peer, frame);
-                Delivery::Done
-            }
+            Message::Reset { .. } => self.take_reset(i, peer, frame),
+            Message::ResetAcknowledge { .. } => self.take_acknowledgement(i, peer, frame),
+            _ => self.take_answer(peer, frame),
         }
+        Delivery::Done
     }
 
     // Takes once from the carrier.

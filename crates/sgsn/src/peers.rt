@@ -15,7 +15,7 @@ pub(crate) fn place_of_sender(peers: &[Peer], frame: Frame) -> Option<usize>
     peers.iter().position(|peer| is_from(frame, peer.vlr.node))
 }
 
-// Keeps this of the VLR that stands there.
+// Keeps this of the VLR at `i`.
 pub(crate) fn set_row(peers: &mut [Peer], i: usize, row: Row)
     requires { i < length peers.old }
     ensures { peers.new ≡ row_at i row peers.old }

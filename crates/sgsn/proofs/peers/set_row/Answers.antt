@@ -1,5 +1,5 @@
 use Rattle.sgsn.specs.Peers.{with_row}
-use Rattle.sgsn.proofs.Senders.{set_changed}
+use Rattle.sgsn.proofs.Places.{set_changed}
 use Rattle.sgsn.proofs.peers.set_row.Goals as goal
 
 pub returns : goal.returns

@@ -5,7 +5,8 @@ use Rattle.sgsn.specs.declared.peer.Peer.{Peer}
 use Rattle.sgsn.specs.Peers.{with_row}
 use Rattle.sgsn.specs.Fitting.{fits_in}
 use Rattle.sgsn.specs.State.{state_of, with_peers}
-use Rattle.sgsn.proofs.Senders.{map_changed, all_changed, row_front}
+use Rattle.sgsn.proofs.Places.{map_changed, all_changed}
+use Rattle.sgsn.proofs.Senders.{row_front}
 use Rattle.sgsn.proofs.sgsn.Sgsn.keep_row.Goals as goal
 
 pub invariant_of-self-clause-nodes : goal.invariant_of-self-clause-nodes

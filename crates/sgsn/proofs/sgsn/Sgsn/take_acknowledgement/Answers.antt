@@ -2,7 +2,7 @@ use Rattle.std.proofs.Common.{ap, ◌∙◌}
 use Rattle.station.specs.Rows.{acknowledged}
 use Rattle.sgsn.specs.State.{state_of, with_peers, with_row_at}
 use Rattle.sgsn.proofs.Senders.{sender_row}
-use Rattle.sgsn.proofs.sgsn.Sgsn.acknowledge.Goals as goal
+use Rattle.sgsn.proofs.sgsn.Sgsn.take_acknowledgement.Goals as goal
 
 pub returns : goal.returns
 returns c =

@@ -4,7 +4,7 @@ use Rattle.sgsn.specs.Fitting.{fits_in}
 use Rattle.sgsn.specs.State.{state_of, vlrs_of}
 use Rattle.sgsn.proofs.Fits.{fits_at, fits_answered}
 use Rattle.sgsn.proofs.Keeps.{held_as, answered_whose}
-use Rattle.sgsn.proofs.sgsn.Sgsn.answer.Goals as goal
+use Rattle.sgsn.proofs.sgsn.Sgsn.take_answer.Goals as goal
 
 pub keep-requires-clause-held : goal.keep-requires-clause-held
 keep-requires-clause-held c =

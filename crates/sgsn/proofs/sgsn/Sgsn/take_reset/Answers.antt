@@ -3,7 +3,7 @@ use Rattle.station.specs.Rows.{reset_taken}
 use Rattle.context.specs.Contexts.{doubtful_at}
 use Rattle.sgsn.specs.State.{state_of, with_peers, with_records, with_row_at}
 use Rattle.sgsn.proofs.Senders.{sender_row}
-use Rattle.sgsn.proofs.sgsn.Sgsn.reset.Goals as goal
+use Rattle.sgsn.proofs.sgsn.Sgsn.take_reset.Goals as goal
 
 pub returns : goal.returns
 returns c =

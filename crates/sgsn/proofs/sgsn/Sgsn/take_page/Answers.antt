@@ -6,7 +6,7 @@ use Rattle.sgsn.specs.Fitting.{fits_in}
 use Rattle.sgsn.specs.State.{state_of, vlrs_of}
 use Rattle.sgsn.proofs.Fits.{fits_at, fits_paged, reach_peers, may_page}
 use Rattle.sgsn.proofs.Keeps.{held_as, paged_whose}
-use Rattle.sgsn.proofs.sgsn.Sgsn.page.Goals as goal
+use Rattle.sgsn.proofs.sgsn.Sgsn.take_page.Goals as goal
 
 pub keep_and_send-requires-clause-held : goal.keep_and_send-requires-clause-held
 keep_and_send-requires-clause-held g c =
