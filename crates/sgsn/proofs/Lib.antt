@@ -1,1 +1,5 @@
 pub mod Fits
+pub mod Places
+pub mod Senders
+pub mod Keeps
+pub mod Delivers

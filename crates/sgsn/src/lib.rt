@@ -1,5 +1,8 @@
 // An SGSN: what it keeps of each mobile and of each of its VLRs, its calls, and what a frame from a VLR does.
 #![tactic(auto)]
 
+pub mod delivering;
+mod keeping;
 pub mod peer;
+mod peers;
 pub mod sgsn;
