@@ -2,4 +2,5 @@
 #![tactic(auto)]
 
 pub mod peer;
+pub mod recovering;
 pub mod sgsn;
