@@ -1,5 +1,10 @@
+pub mod Delivers
 pub mod Fits
+pub mod Keeps
+pub mod Kept
+pub mod Loops
 pub mod Places
 pub mod Senders
-pub mod Keeps
-pub mod Delivers
+pub mod Stamps
+pub mod Ticks
+pub mod Turns

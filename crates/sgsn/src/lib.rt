@@ -5,4 +5,5 @@ pub mod delivering;
 mod keeping;
 pub mod peer;
 mod peers;
+pub mod recovering;
 pub mod sgsn;
