@@ -1,2 +1,3 @@
 pub mod Fits
+pub mod Keeps
 pub mod Makes

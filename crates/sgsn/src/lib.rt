@@ -1,6 +1,8 @@
 // An SGSN: what it keeps of each mobile and of each of its VLRs, its calls, and what a frame from a VLR does.
 #![tactic(auto)]
 
+pub mod enrolling;
+pub mod keeping;
 pub mod making;
 pub mod peer;
 pub mod sgsn;
