@@ -3,6 +3,7 @@ pub mod Fits
 pub mod Keeps
 pub mod Kept
 pub mod Loops
+pub mod Makes
 pub mod Places
 pub mod Senders
 pub mod Stamps

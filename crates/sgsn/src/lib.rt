@@ -2,7 +2,10 @@
 #![tactic(auto)]
 
 pub mod delivering;
+pub mod enrolling;
 mod keeping;
+pub mod keeping;
+pub mod making;
 pub mod peer;
 mod peers;
 pub mod recovering;
