@@ -4,7 +4,6 @@
 pub mod delivering;
 pub mod enrolling;
 mod keeping;
-pub mod keeping;
 pub mod making;
 pub mod peer;
 mod peers;
