@@ -10,10 +10,8 @@ use Rattle.carrier.specs.Order.{Stamps, Empty}
 use Rattle.station.specs.declared.denial.Denial.{Denial}
 use Rattle.station.specs.declared.receiving.Delivery.{Delivery}
 use Rattle.station.specs.declared.receiving.Refusal.{Refusal}
-use Rattle.station.specs.declared.receiving.Refusal.TheVariants as refusal
 use Rattle.station.specs.declared.sending.Outgoing.{Outgoing}
 use Rattle.station.specs.Calls.{Decided, Called}
-use Rattle.context.specs.declared.errand.Verdict.{Verdict}
 use Rattle.sgsn.specs.State as sgsn
 use Rattle.sgsn.specs.Making as sgsn_made
 use Rattle.sgsn.specs.Enrolling as sgsn_enrol
@@ -33,24 +31,8 @@ use Rattle.law.specs.declared.call.Call.{Call}
 use Rattle.law.specs.declared.call.Call.TheVariants as call
 use Rattle.law.specs.declared.call.Answer.{Answer}
 use Rattle.law.specs.declared.call.Answer.TheVariants as answer
+use Rattle.law.specs.Answers.{called, settled, delivered}
 use Rattle.law.specs.Tables.{View}
-
--- what a call is answered
-abbrev pub called : Result Unit Denial → Answer
-called (Ok u) = answer.Done
-called (Err d) = answer.Denied d
-
-abbrev pub settled : Result Verdict Denial → Answer
-settled (Ok v) = answer.Verdict v
-settled (Err d) = answer.Denied d
-
-abbrev pub refused : Refusal → Answer
-refused (refusal.Denied d) = answer.Denied d
-refused (refusal.Faulty f) = answer.Faulty f
-
-abbrev pub delivered : Result Delivery Refusal → Answer
-delivered (Ok d) = answer.Delivered d
-delivered (Err r) = refused r
 
 -- the node is one of these VLRs
 abbrev pub is_vlr : NodeNumber → List vlr.State → Bool
