@@ -1,4 +1,5 @@
 pub mod Pairs
 pub mod Premises
+pub mod Sendings
 pub mod SgsnMoves
 pub mod VlrMoves
