@@ -1,3 +1,4 @@
+pub mod Carried
 pub mod Pairs
 pub mod Premises
 pub mod Sendings
