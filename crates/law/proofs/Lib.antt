@@ -1,4 +1,5 @@
 pub mod Carried
+pub mod Keeping
 pub mod Pairs
 pub mod Premises
 pub mod Sendings
