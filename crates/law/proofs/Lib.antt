@@ -5,3 +5,4 @@ pub mod Premises
 pub mod Sendings
 pub mod SgsnMoves
 pub mod VlrMoves
+pub mod Whole
