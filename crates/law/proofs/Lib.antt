@@ -1,8 +1,10 @@
+pub mod Calls
 pub mod Carried
 pub mod Keeping
 pub mod Pairs
 pub mod Premises
 pub mod Sendings
 pub mod SgsnMoves
+pub mod Started
 pub mod VlrMoves
 pub mod Whole

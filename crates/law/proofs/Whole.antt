@@ -34,7 +34,7 @@ pub record Sound (s : sgsn.State) (vs : List vlr.State) (ws : List (List ℕ)) (
   pub differ : apart s.own (numbers_of vs) ≡ true
   pub each : Each (λ v. Pair s v ws ls) vs
 
-each_map : {Q R : vlr.State → Type 0} (vs : List vlr.State) → ((v : vlr.State) → Q v → R v) → Each Q vs → Each R vs
+pub each_map : {Q R : vlr.State → Type 0} (vs : List vlr.State) → ((v : vlr.State) → Q v → R v) → Each Q vs → Each R vs
 each_map [] f e = tt
 each_map (v ∷ vs) f e = (f v e.0, each_map vs f e.1)
 
