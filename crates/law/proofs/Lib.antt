@@ -1,3 +1,4 @@
+pub mod Agreeing
 pub mod Calls
 pub mod Carried
 pub mod Keeping
