@@ -1,7 +1,7 @@
 -- Each move of a VLR shows what it must.
-use Rattle.std.proofs.Common.{◌≡◌, ℕ, ◌+◌, ◌<◌, ◌≤◌, ◌⊎◌, inl, inr, ⊎_elim, Bool, true, false, not, cond, ◌&&◌, ◌==◌, List, [], ◌∷◌, ◌++◌, is_some, Some, None, Option, refl, sym, ap, ◌∙◌, subst, arith}
+use Rattle.std.proofs.Common.{◌≡◌, ℕ, ◌+◌, ◌<◌, ◌≤◌, ◌⊎◌, inl, inr, ⊎_elim, Bool, true, false, not, cond, ◌&&◌, ◌==◌, List, [], ◌∷◌, ◌++◌, length, is_some, Some, None, Option, refl, sym, ap, ◌∙◌, subst, arith}
 use Rattle.std.specs.List.{list_all}
-use Rattle.std.proofs.lemmas.Bool.{true≢false, false≢true, not-true, and_parts, cond-true, cond-false, eqb-true}
+use Rattle.std.proofs.lemmas.Bool.{true≢false, false≢true, not-true, and_parts, cases_Bool, cond-true, cond-false, eqb-true}
 use Rattle.std.proofs.lemmas.Option.{none-some, same_Some}
 use Rattle.imsi.specs.declared.Imsi.{Imsi}
 use Rattle.elements.specs.declared.area.LocationArea.{LocationArea}
@@ -20,7 +20,7 @@ use Rattle.station.specs.declared.mark.Mark.TheVariants as mark
 use Rattle.station.specs.declared.row.Recovery.{Recovery}
 use Rattle.station.specs.declared.row.Row.{Row}
 use Rattle.station.specs.Receiving.{is_from, names_sender}
-use Rattle.station.specs.Rows.{repeat_now, runs_out, nearer, anew, is_last}
+use Rattle.station.specs.Rows.{repeat_now, due_now, due_ticked, reset_ticked, repeated, runs_out, nearer, anew, is_last}
 use Rattle.station.specs.Sends.{frames_of}
 use Rattle.station.specs.Ticks as tick
 use Rattle.sgsn.specs.State as sgsn
@@ -183,12 +183,92 @@ module _ (s : sgsn.State) (v : vlr.State) (ws : List (List ℕ)) (ls : Stamps) (
     accepting = λ m g n. not-true _ (among_all (λ x. not (accepts m x)) v.own v.last (resets v) g refl n.0);
   }
 
+  spared : (m : Imsi) (g : Frame) → Among g (frames_of v.own v.last (tick_sends v)) → accepts m g.message ≡ false
+  spared m g n = not-true _ (among_all (λ x. not (accepts m x)) v.own v.last (tick_sends v) g (tick_accepts v.own v.sgsn.node m (due_now v.row) (repeat_now v.row)) n)
+
   pub ticked_moves : repeat_now v.row ≡ false → VlrMove s v (ticked v) ws ls (Sends v.own v.last (tick_sends v) s.own)
-  ticked_moves e = ?
+  ticked_moves e =
+      let row : (ticked v).row ≡ reset_ticked (due_ticked v.row) = cond-false (repeat_now v.row) _ _ e in
+      record {
+        own = refl;
+        sgsn = refl;
+        last = omega arith;
+        stamps = λ g n. among_stamps v.own v.last (tick_sends v) g n.0;
+        reset = ap (λ x. x.reset) row;
+        recovery = λ h. inl (still_over v.row.recovery (ap (λ x. x.recovery) (sym row) ∙ h));
+        sure = λ m h. inl h;
+        accepting = λ m g n k. absurd (true≢false (sym k ∙ spared m g n.0));
+      }
 
   pub ticked_restarts : repeat_now v.row ≡ true → VlrRestart s v (ticked v) ws ls (Sends v.own v.last (tick_sends v) s.own)
-  ticked_restarts e = ?
+  ticked_restarts e =
+      let stamp = v.last + length (tick.due_sends v.own v.sgsn.node v.row) + 1 in
+      let row : (ticked v).row ≡ repeated (due_ticked v.row) stamp = cond-true (repeat_now v.row) _ _ e in
+      record {
+        own = refl;
+        sgsn = refl;
+        last = omega arith;
+        stamps = λ g n. among_stamps v.own v.last (tick_sends v) g n.0;
+        stamp = stamp;
+        reset = ap (λ x. x.reset) row;
+        later = omega arith;
+        recovery = λ h. not_over v.row.recovery e (ap (λ x. x.recovery) (sym row) ∙ h);
+        accepting = λ m g n. spared m g n.0;
+      }
+
+  -- a frame of another node has no effect
+  untaken : (ws1 : List (List ℕ)) (ls1 : Stamps) → VlrMove s v v ws1 ls1 (Sends v.own v.last [] s.own)
+  untaken ws1 ls1 = record {
+    own = refl;
+    sgsn = refl;
+    last = omega arith;
+    stamps = λ g n. absurd n.0;
+    reset = refl;
+    recovery = λ e. inl e;
+    sure = λ m h. inl h;
+    accepting = λ m g n k. absurd n.0;
+  }
+
+  module _ (f : Frame) (ws1 : List (List ℕ)) (ls1 : Stamps) (G : Given v.own f ws ls ws1 ls1) (from : f.source ≡ s.own) where
+    from_live : Live ws ls s.own v.own f
+    from_live = subst (λ a. Live ws ls a v.own f) from G.live
+
+    -- the mobile that the frame harms was not sure, and no acceptance of it that is on its way counts
+    harmed : (w : vlr.State) (New : Frame → Type 0) (m : Imsi) → harms m f.message ≡ true → Harmed s v w ws1 ls1 New m
+    harmed w New m h = record {
+      unsure = λ c. true≢false (sym h ∙ P.clear m c f from_live);
+      unasked = λ r a up g l k q.
+          let came = P.known m g (given_live v.own f ws ls ws1 ls1 G v.own s.own g l) k in
+          true≢false (sym h ∙ P.pending m r a up f from_live (omega (arith, came.0, from_live.later)));
+    }
+
+    ended : (w : vlr.State) (New : Frame → Type 0) → is_acknowledgement f.message ≡ true → v.row.reset ≡ Some f.answers → Ended s v w ws1 ls1 New
+    ended w New k e = record {
+      stamp = f.answers;
+      reset = e;
+      given = omega (arith, (P.heard_acknowledged f from_live k).0, given_later v.own f ws ls ws1 ls1 G v.own s.own);
+      agreed = P.acknowledged f from_live k e;
+    }
+
+    from_sgsn : VlrMove s v (taken v f) ws1 ls1 (Sends v.own v.last (answers_to v f) s.own)
+    from_sgsn = record {
+      own = refl;
+      sgsn = refl;
+      last = omega arith;
+      stamps = λ g n. among_stamps v.own v.last (answers_to v f) g n.0;
+      reset = (row_kept v.row f.stamp f.answers f.message).0;
+      recovery = λ e. ⊎_elim (λ o. inl o) (λ a. inr (ended _ _ a.0 a.1)) ((row_kept v.row f.stamp f.answers f.message).1 e);
+      sure = λ m h. ⊎_elim (λ t. inr (harmed _ _ m t)) (λ t. inl (unharmed v f.message m t ∙ h)) (cases_Bool (harms m f.message));
+      accepting = λ m g n k.
+          let sent = answer_frame v.own v.last v.sgsn.node f.stamp (answer_to (noted v f.message) f.message) g n.0 in
+          let now : ls1 s.own v.own ≡ f.stamp = ap (λ a. ls1 a v.own) (sym from) ∙ G.now in
+          (accepted_sure v f.message m g.message sent.0 k, omega (arith, sent.1), omega (arith, sent.1, P.down f from_live));
+    }
 
   -- after a take for the VLR
   pub taken_moves : (f : Frame) (ws1 : List (List ℕ)) (ls1 : Stamps) → Given v.own f ws ls ws1 ls1 → VlrMove s v (moved_by_frame v f) ws1 ls1 (Sends v.own v.last (sends_by_frame v f) s.own)
-  taken_moves f ws1 ls1 G = ?
+  taken_moves f ws1 ls1 G = by_sender (is_from v.sgsn.node f) refl
+    where
+      by_sender : (b : Bool) → is_from v.sgsn.node f ≡ b → VlrMove s v (cond b (taken v f) v) ws1 ls1 (Sends v.own v.last (cond b (answers_to v f) []) s.own)
+      by_sender true e = from_sgsn f ws1 ls1 G (same_node_lem f.source v.sgsn.node (and_parts (same_node f.source v.sgsn.node) (names_sender v.sgsn.node f.message) e).0 ∙ P.its)
+      by_sender false e = untaken ws1 ls1
