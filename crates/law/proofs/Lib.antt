@@ -1,3 +1,4 @@
+pub mod OneRecord
 pub mod Pairs
 pub mod Premises
 pub mod SgsnMoves
