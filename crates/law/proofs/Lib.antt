@@ -1,3 +1,4 @@
+pub mod Asks
 pub mod OneRecord
 pub mod Pairs
 pub mod Premises

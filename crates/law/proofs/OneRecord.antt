@@ -113,6 +113,10 @@ module _ (s t : sgsn.State) (v : vlr.State) (ws : List (List ℕ)) (ls : Stamps)
         other = M.other;
       })
 
+-- a record that was found is found by its own mobile
+pub own_record : (s : sgsn.State) (i : Imsi) (r : Context) → sgsn.record_at s i ≡ Some r → sgsn.record_at s (whose r) ≡ Some r
+own_record s i r e = subst (λ j. sgsn.record_at s j ≡ Some r) (sym (at-whose whose s.records i r e)) e
+
 -- The SGSN s sends nothing, or one frame.
 module _ (s : sgsn.State) (v : vlr.State) (ws : List (List ℕ)) (ls : Stamps) (B : (x : ℕ) → reset_to s v.own ≡ Some x → x ≤ s.last) where
   -- nothing changes, and nothing is sent
@@ -147,6 +151,18 @@ module _ (s : sgsn.State) (v : vlr.State) (ws : List (List ℕ)) (ls : Stamps) (
     unsure = λ g n. absurd (none g n);
     open_now = λ g n. absurd (none g n);
   })
+
+  -- a record that was found is changed, no VLR is surer and nothing more is asked; nothing is sent
+  pub quiet : (New : Frame → Type 0) → ((g : Frame) → New g → ⊥) → (t : sgsn.State) → t.own ≡ s.own → t.peers ≡ s.peers → s.last ≤ t.last
+      → (i : Imsi) (r r2 : Context) → sgsn.record_at s i ≡ Some r → t.records ≡ stored whose r2 s.records → whose r2 ≡ whose r
+      → ((n : VlrNumber) → r2.mark ≡ mark.Confirmed n → r.mark ≡ mark.Confirmed n)
+      → ((n : ℕ) → asked_in v.own r2.errand ≡ Some n → asked_in v.own r.errand ≡ Some n)
+      → SgsnMove s t v ws ls New
+  quiet New none t own peers last i r r2 e records same_mobile sure asking =
+      let its : sgsn.record_at s (whose r2) ≡ Some r = ap (sgsn.record_at s) same_mobile ∙ own_record s i r e in
+      silent New none t own peers last r2 records
+      (λ h. inl (ap mark_in its ∙ sure _ h))
+      (λ n a. ap (λ o. asked_in v.own (errand_in o)) its ∙ asking n a)
 
   -- a record is stored of which no VLR is sure, and a frame about its mobile is sent
   pub told : (r : Context) (x : Outgoing)
