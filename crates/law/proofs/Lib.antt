@@ -1,7 +1,9 @@
 pub mod Agreeing
+pub mod Asks
 pub mod Calls
 pub mod Carried
 pub mod Keeping
+pub mod OneRecord
 pub mod Pairs
 pub mod Premises
 pub mod Sendings
