@@ -1,11 +1,10 @@
 -- What each move of an SGSN keeps: its number, its VLRs, and that its records are such as it may keep.
-use Rattle.std.proofs.Common.{◌≡◌, ℕ, ◌+◌, Bool, true, false, ◌&&◌, ◌||◌, not, cond, List, [], ◌∷◌, map, find, Ok, Err, Some, None, Option, Result, sym, refl, ap, ◌∙◌, subst, ⊎_elim, arith}
+use Rattle.std.proofs.Common.{◌≡◌, ℕ, ◌+◌, Bool, true, false, ◌||◌, not, List, [], ◌∷◌, map, Ok, Err, Some, None, Option, Result, sym, refl, ap, ◌∙◌, subst, ⊎_elim}
 use Rattle.std.specs.List.{list_all}
 use Rattle.std.proofs.lemmas.Bool.{cases_Bool, cond-true, cond-false, or_left, or_right}
 use Rattle.std.proofs.lemmas.Option.{none-some, same_Some}
 use Rattle.imsi.specs.declared.Imsi.{Imsi}
 use Rattle.imsi.specs.Spelling.{lawful_imsi}
-use Rattle.elements.specs.declared.node.VlrNumber.{VlrNumber}
 use Rattle.elements.specs.Nodes.{same_node}
 use Rattle.messages.specs.declared.message.Message.{Message}
 use Rattle.messages.specs.declared.message.Message.TheVariants.{Paging, PagingFailure, MobileStatus, LuRequest, LuAccept, LuReject, Reset, ResetAcknowledge, GprsDetachIndication, GprsDetachAcknowledge, ImsiDetachIndication, ImsiDetachAcknowledge}
@@ -30,7 +29,7 @@ use Rattle.context.specs.Answering.{answered}
 use Rattle.context.specs.Paging.{paged, page_sends}
 use Rattle.sgsn.specs.declared.peer.Peer.{Peer}
 use Rattle.sgsn.specs.Fitting.{is_one_of, fits_in}
-use Rattle.sgsn.specs.Peers.{sent_it, peer_from, row_changed}
+use Rattle.sgsn.specs.Peers.{sent_it, peer_from}
 use Rattle.sgsn.specs.State.{State, vlrs_of, record_at, with_context, with_sent}
 use Rattle.sgsn.specs.Enrolling.{enrol_denial, enrolled_as, enrolled, attached_as, attached}
 use Rattle.sgsn.specs.Requesting.{record_denial, kind_denial, request_denial, requested_as, requested}
