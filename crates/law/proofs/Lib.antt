@@ -1,4 +1,13 @@
+pub mod Agreeing
+pub mod Asks
+pub mod Calls
+pub mod Carried
+pub mod Keeping
+pub mod OneRecord
 pub mod Pairs
 pub mod Premises
+pub mod Sendings
 pub mod SgsnMoves
+pub mod Started
 pub mod VlrMoves
+pub mod Whole

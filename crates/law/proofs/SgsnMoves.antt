@@ -1,6 +1,16 @@
 -- Each move of an SGSN shows what it must.
-use Rattle.std.proofs.Common.{◌≡◌, ℕ, ◌+◌, ◌<◌, ◌≤◌, ◌⊎◌, Bool, true, false, List, Some, None, Option}
+use Rattle.std.proofs.Common.{◌≡◌, ℕ, List, Some, None, Ok, Err, Option, Result, refl, arith}
+use Rattle.std.proofs.lemmas.Option.{none-some}
 use Rattle.imsi.specs.declared.Imsi.{Imsi}
+use Rattle.station.specs.declared.denial.Denial.{Denial}
+use Rattle.context.specs.declared.class.ServiceClass.{ServiceClass}
+use Rattle.context.specs.declared.context.Context.{Context}
+use Rattle.context.specs.declared.errand.Errand.{Errand}
+use Rattle.context.specs.declared.errand.Errand.TheVariants as errand
+use Rattle.context.specs.declared.errand.Verdict.{Verdict}
+use Rattle.context.specs.Codes.{class_in, request_kind_in, detach_kind_in}
+use Rattle.context.specs.Contexts.{new_context, attached_now, idle}
+use Rattle.context.specs.Ticking.{expired}
 use Rattle.frames.specs.declared.frame.Frame.{Frame}
 use Rattle.carrier.specs.Order.{Stamps}
 use Rattle.context.specs.declared.kind.Request.{Request}
@@ -8,28 +18,53 @@ use Rattle.sgsn.specs.State as sgsn
 use Rattle.sgsn.specs.Enrolling as enrol
 use Rattle.sgsn.specs.Requesting.{request_denial, requested, request_sends}
 use Rattle.sgsn.specs.Detaching.{detach_denial, detached, detach_sends}
-use Rattle.sgsn.specs.Settling.{settling, after_settling}
+use Rattle.sgsn.specs.Settling.{settling, after_settling, settled_as, settled_errand}
 use Rattle.sgsn.specs.Delivering.{moved_by_frame, sends_by_frame}
 use Rattle.sgsn.specs.Recovering.{lost, resets, ticked, tick_sends}
 use Rattle.vlr.specs.State as vlr
 use Rattle.law.specs.Sound.{Pair}
 use Rattle.law.proofs.Premises.{Fit, Given, Sends, SgsnMove}
+use Rattle.law.proofs.OneRecord.{none_unsure, still, silent, quiet}
+use Rattle.law.proofs.Asks.{passed_on, requested_so, detached_so}
 
 module _ (s : sgsn.State) (v : vlr.State) (ws : List (List ℕ)) (ls : Stamps) (F : Fit s) (P : Pair s v ws ls) where
   pub enrolled_moves : (i : Imsi) (code : ℕ) → enrol.enrol_denial s i code ≡ None → SgsnMove s (enrol.enrolled s i code) v ws ls (λ g. ⊥)
-  enrolled_moves i code d = ?
+  enrolled_moves i code d = enrolled_so (class_in code)
+    where
+      enrolled_so : (o : Option ServiceClass) → SgsnMove s (enrol.enrolled_as s i o) v ws ls (λ g. ⊥)
+      enrolled_so None = still s v ws ls P.reset_before (λ g. ⊥) (λ g n. n)
+      enrolled_so (Some c) =
+          silent s v ws ls P.reset_before (λ g. ⊥) (λ g n. n) (sgsn.with_context s (new_context i c)) refl refl (omega arith) (new_context i c) refl
+          (λ h. absurd (none_unsure _ h)) (λ n a. absurd (none-some n a))
 
   pub attached_moves : (i : Imsi) → SgsnMove s (enrol.attached s i) v ws ls (λ g. ⊥)
-  attached_moves i = ?
+  attached_moves i = attached_so (sgsn.record_at s i) refl
+    where
+      attached_so : (o : Option Context) → sgsn.record_at s i ≡ o → SgsnMove s (enrol.attached_as s o) v ws ls (λ g. ⊥)
+      attached_so None e = still s v ws ls P.reset_before (λ g. ⊥) (λ g n. n)
+      attached_so (Some r) e =
+          quiet s v ws ls P.reset_before (λ g. ⊥) (λ g n. n) (sgsn.with_context s (attached_now r)) refl refl (omega arith) i r (attached_now r) e refl refl
+          (λ n h. h) (λ n a. a)
 
   pub requested_moves : (i : Imsi) (q : Request) → request_denial s i q ≡ None → SgsnMove s (requested s i q) v ws ls (Sends s.own s.last (request_sends s i q) v.own)
-  requested_moves i q d = ?
+  requested_moves i q d = requested_so s v ws ls P.reset_before i q (request_kind_in q.kind) (sgsn.record_at s i) refl (passed_on _ _ _ d)
 
   pub detached_moves : (i : Imsi) (code : ℕ) → detach_denial s i code ≡ None → SgsnMove s (detached s i code) v ws ls (Sends s.own s.last (detach_sends s i code) v.own)
-  detached_moves i code d = ?
+  detached_moves i code d = detached_so s v ws ls P.reset_before (detach_kind_in code) (sgsn.record_at s i)
 
   pub settled_moves : (i : Imsi) → SgsnMove s (after_settling s i (settling s i)) v ws ls (λ g. ⊥)
-  settled_moves i = ?
+  settled_moves i = settled_so (settling s i)
+    where
+      settles : (r : Context) (e : Errand) → r.errand ≡ e → sgsn.record_at s i ≡ Some r → SgsnMove s (sgsn.with_context s (settled_errand e r)) v ws ls (λ g. ⊥)
+      settles r errand.Idle q f = quiet s v ws ls P.reset_before (λ g. ⊥) (λ g n. n) (sgsn.with_context s r) refl refl (omega arith) i r r f refl refl (λ n h. h) (λ n a. a)
+      settles r (errand.Open o) q f = quiet s v ws ls P.reset_before (λ g. ⊥) (λ g n. n) (sgsn.with_context s (idle (expired o r))) refl refl (omega arith) i r (idle (expired o r)) f refl refl (λ n h. h) (λ n a. absurd (none-some n a))
+      settles r (errand.Ended w) q f = quiet s v ws ls P.reset_before (λ g. ⊥) (λ g n. n) (sgsn.with_context s (idle r)) refl refl (omega arith) i r (idle r) f refl refl (λ n h. h) (λ n a. absurd (none-some n a))
+      settled_as_so : (o : Option Context) → sgsn.record_at s i ≡ o → SgsnMove s (settled_as s o) v ws ls (λ g. ⊥)
+      settled_as_so None f = still s v ws ls P.reset_before (λ g. ⊥) (λ g n. n)
+      settled_as_so (Some r) f = settles r r.errand refl f
+      settled_so : (x : Result Verdict Denial) → SgsnMove s (after_settling s i x) v ws ls (λ g. ⊥)
+      settled_so (Ok w) = settled_as_so (sgsn.record_at s i) refl
+      settled_so (Err w) = still s v ws ls P.reset_before (λ g. ⊥) (λ g n. n)
 
   pub lost_moves : SgsnMove s (lost s) v ws ls (Sends s.own s.last (resets s) v.own)
   lost_moves = ?
