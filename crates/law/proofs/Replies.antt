@@ -73,17 +73,29 @@ timely es s R m owed late = timely_for (ticks_since s.own m es) (errand_of s m) 
 
 
 pub replies_new : (s : sgsn.State) → s.records ≡ [] → Replies [] s
-replies_new s e = record {
-  balanced = ap (λ rs. count_by (λ r. owes r.errand) rs) (sym e);
-  owed = λ m. ap (λ rs. owes (errand_in (at whose rs m))) e;
-  left = λ m o q. absurd (idle_open o (ap (λ rs. errand_in (at whose rs m)) (sym e) ∙ q));
-}
-  where
-    idle_open : (o : Open) → errand.Idle ≡ errand.Open o → ⊥
-    idle_open o q = cc
+replies_new s e =
+    let nothing : owing s ≡ 0 = ap (λ rs. count_by (λ r. owes r.errand) rs) e in
+    record {
+      balanced = omega arith;
+      owed = λ m. ap (λ rs. owes (errand_in (at whose rs m))) e;
+      left = λ m o q.
+        let clash : errand.Idle ≡ errand.Open o = ap (λ rs. errand_in (at whose rs m)) (sym e) ∙ q in
+        absurd (cc);
+    }
 
 between : (x y z : Bool) → (x && z) ≡ false → (x && (y && z)) ≡ false
 between x y z e = grind (arith, nat_tests)
+
+and_true : (b : Bool) → (b && true) ≡ b
+and_true true = refl
+and_true false = refl
+
+-- what happened to the one mobile whose record was stored
+pub errand_after : (s t : sgsn.State) (i : Imsi) (r : Context) → whose r ≡ i → t.records ≡ stored whose r s.records → (m : Imsi) → errand_of t m ≡ cond (same m i) r.errand (errand_of s m)
+errand_after s t i r its e m = ap (λ rs. errand_in (at whose rs m)) e ∙ errand-stored i r s.records m its
+
+owing_after : (s t : sgsn.State) (i : Imsi) (r : Context) → whose r ≡ i → t.records ≡ stored whose r s.records → owing t + one (owes (errand_of s i)) ≡ owing s + one (owes r.errand)
+owing_after s t i r its e = omega (arith, ap (λ rs. count_by (λ x. owes x.errand) rs) e, owing-stored i r s.records its)
 
 module _ (c : Call) (a : Answer) (es : Events) where
   -- a call that counts for nothing
@@ -101,14 +113,155 @@ module _ (c : Call) (a : Answer) (es : Events) where
 
   -- a call that was denied
   denied : (s t : sgsn.State) → accepted a ≡ false → t ≡ s → Replies es s → Replies ((c, a) ∷ es) t
-  denied s t no still R =
-      subst (λ u. Replies ((c, a) ∷ es) u) (sym still) (quiet s s (and_right (asks c) (accepted a) no) (and_right (settles c) (accepted a) no) (and_right (ticks s.own c) (accepted a) no) (kept_same s s refl refl) R)
+  denied s t refused still R =
+      subst (λ u. Replies ((c, a) ∷ es) u) (sym still) (quiet s s (and_right (asks c) (accepted a) refused) (and_right (settles c) (accepted a) refused) (and_right (ticks s.own c) (accepted a) refused) (kept_same s s refl refl) R)
 
   -- a request or a detach that was accepted
   asked : (s t : sgsn.State) (i : Imsi) (r : Context) → asks c ≡ true → settles c ≡ false → ((n : NodeNumber) → ticks n c ≡ false) → ((m : Imsi) → is_of m c ≡ same m i) → accepted a ≡ true
       → whose r ≡ i → owes (errand_of s i) ≡ false → owes r.errand ≡ true → ((o : Open) → r.errand ≡ errand.Open o → (left_of o ≤ 32) × (1 ≤ o.ticks))
       → t.own ≡ s.own → t.records ≡ stored whose r s.records → Replies es s → Replies ((c, a) ∷ es) t
-  asked s t i r ask settle tick of yes its free owing left own e R = ?
+  asked s t i r ask settle tick of made its free now left own e R =
+      let here : (m : Imsi) → (asks c && (is_of m c && accepted a)) ≡ same m i = λ m. (λ x. ask x && (of m x && made x)) ∙ and_true (same m i) in
+      record {
+        balanced = omega (
+          arith,
+          cond-true (asks c && accepted a) (1 + accepted_calls asks es) (accepted_calls asks es) (λ x. ask x && made x),
+          cond-false (settles c && accepted a) (1 + accepted_calls settles es) (accepted_calls settles es) (λ x. settle x && made x),
+          owing_after s t i r its e,
+          ap one free,
+          ap one now,
+          R.balanced,
+        );
+        owed = λ m. ap owes (errand_after s t i r its e m) ∙ owed_by m (same m i)
+          ∙ sym ((λ x. cond (here m x) true (cond (settle x && (is_of m c && accepted a)) false (owes_reply m es))));
+        left = λ m o q.
+          let since : ticks_since t.own m ((c, a) ∷ es) ≡ cond (same m i) 0 (ticks_since s.own m es) =
+          ap (λ n. ticks_since n m ((c, a) ∷ es)) own ∙ (λ x. cond (here m x) 0 (cond (tick s.own x && accepted a) (1 + ticks_since s.own m es) (ticks_since s.own m es))) in
+          let l = left_by m (same m i) o (sym (errand_after s t i r its e m) ∙ q) in
+          (omega arith, l.1);
+      }
+      where
+        owed_by : (m : Imsi) (b : Bool) → owes (cond b r.errand (errand_of s m)) ≡ cond b true (owes_reply m es)
+        owed_by m true = now
+        owed_by m false = R.owed m
+
+        left_by : (m : Imsi) (b : Bool) (o : Open) → cond b r.errand (errand_of s m) ≡ errand.Open o → (cond b 0 (ticks_since s.own m es) + left_of o ≤ 32) × (1 ≤ o.ticks)
+        left_by m true o q = let l = left o q in (omega arith, l.1)
+        left_by m false o q = R.left m o q
+
+-- a reply that was settled
+settled_one : (i : Imsi) (a : Answer) (es : Events) (s t : sgsn.State) (r : Context) → accepted a ≡ true → whose r ≡ i → owes (errand_of s i) ≡ true → owes r.errand ≡ false → t.own ≡ s.own → t.records ≡ stored whose r s.records → Replies es s → Replies ((call.Settle i, a) ∷ es) t
+settled_one i a es s t r made its owed now own e R = record {
+  balanced = omega (arith, cond-true (accepted a) (1 + accepted_calls settles es) (accepted_calls settles es) made, owing_after s t i r its e, ap one owed, ap one now, R.balanced);
+  owed = λ m. ap owes (errand_after s t i r its e m) ∙ owed_by m (same m i) ∙ sym (ap (λ b. cond b false (owes_reply m es)) ((λ x. same m i && made x) ∙ and_true (same m i)));
+  left = λ m o q.
+    let since : ticks_since t.own m es ≡ ticks_since s.own m es = ap (λ n. ticks_since n m es) own in
+    let l = left_by m (same m i) o (sym (errand_after s t i r its e m) ∙ q) in
+    (omega arith, l.1);
+}
+  where
+    owed_by : (m : Imsi) (b : Bool) → owes (cond b r.errand (errand_of s m)) ≡ cond b false (owes_reply m es)
+    owed_by m true = now
+    owed_by m false = R.owed m
+
+    left_by : (m : Imsi) (b : Bool) (o : Open) → cond b r.errand (errand_of s m) ≡ errand.Open o → (ticks_since s.own m es + left_of o ≤ 32) × (1 ≤ o.ticks)
+    left_by m true o q = absurd (true≢false (sym (ap owes q) ∙ now))
+    left_by m false o q = R.left m o q
+
+-- a tick of the SGSN
+ticked_one : (n : NodeNumber) (a : Answer) (es : Events) (s : sgsn.State) → same_node s.own n ≡ true → accepted a ≡ true → Replies es s → Replies ((call.Tick n, a) ∷ es) (recovering.ticked s)
+ticked_one n a es s own made R = record {
+  balanced = omega (arith, ticked_owed s, R.balanced);
+  owed = λ m. (ticked_time s m 0).0 ∙ R.owed m;
+  left = λ m o q.
+    let since : ticks_since s.own m ((call.Tick n, a) ∷ es) ≡ 1 + ticks_since s.own m es = cond-true _ _ _ (λ x. own x && made x) in
+    let l = (ticked_time s m (ticks_since s.own m es)).1 (R.left m) o q in
+    (omega arith, l.1);
+}
+
+-- How a call that can be denied ends.
+outcome : (d : Option Denial) (s after t : sgsn.State) (r : Result Unit Denial) (a : Answer) → a ≡ called r → Decided d tt s after r t → ((accepted a ≡ false) × (t ≡ s)) ⊎ ((d ≡ None) × (accepted a ≡ true) × (t ≡ after))
+outcome (Some d) s after t r a q m = inl (ap accepted (q ∙ ap called m.0), m.1)
+outcome None s after t r a q m = inr (refl, ap accepted (q ∙ ap called m.0), m.1)
+
+-- denied or made, where what it makes is known
+by_outcome : (c : Call) (a : Answer) (es : Events) (d : Option Denial) (s after t : sgsn.State) → ((accepted a ≡ false) × (t ≡ s)) ⊎ ((d ≡ None) × (accepted a ≡ true) × (t ≡ after)) → (d ≡ None → accepted a ≡ true → Replies ((c, a) ∷ es) after) → Replies es s → Replies ((c, a) ∷ es) t
+by_outcome c a es d s after t (inl x) made R = denied c a es s t x.0 x.1 R
+by_outcome c a es d s after t (inr x) made R = subst (λ u. Replies ((c, a) ∷ es) u) (sym x.2) (made x.0 x.1)
+
+unless_none : (g : Bool) (d : Denial) (o : Option Denial) → unless g d o ≡ None → (g ≡ true) × (o ≡ None)
+unless_none true d o e = (refl, e)
+unless_none false d o e = absurd (none-some d (sym e))
+
+-- What each call of the SGSN makes.
+enrolled_kept : (s : sgsn.State) (i : Imsi) (o : Option ServiceClass) (x : Option Context) → at whose s.records i ≡ x → is_some x ≡ false → Kept s (enrolling.enrolled_as s i o)
+enrolled_kept s i None x e f = kept_same s s refl refl
+enrolled_kept s i (Some c) None e f = kept_stored s _ i (new_context i c) refl (stays_same (errand_of s i) errand.Idle (sym (ap errand_in e))) refl refl
+enrolled_kept s i (Some c) (Some r) e f = absurd (true≢false f)
+
+attached_kept : (s : sgsn.State) (i : Imsi) (x : Option Context) → at whose s.records i ≡ x → Kept s (enrolling.attached_as s x)
+attached_kept s i None e = kept_same s s refl refl
+attached_kept s i (Some r) e = kept_stored s _ i (attached_now r) (at-whose whose s.records i r e) (stays_same (errand_of s i) r.errand (sym (ap errand_in e))) refl refl
+
+lost_kept : (s : sgsn.State) → Kept s (recovering.lost s)
+lost_kept s = kept_map s (recovering.lost s) doubtful (λ r. refl) (λ r. refl) refl refl
+
+module _ (s : sgsn.State) (i : Imsi) (a : Answer) (es : Events) (made : accepted a ≡ true) (R : Replies es s) where
+  requested_as : (q : Request) (k : RequestKind) (x : Option Context) → at whose s.records i ≡ x → requesting.record_denial s q k x ≡ None → Replies ((call.Request i q, a) ∷ es) (requesting.requested_as s q (Some k) x)
+  requested_as q k None e d = absurd (none-some _ (sym d))
+  requested_as q k (Some r) e d =
+      let voice = unless_none _ _ _ d in
+      let its = unless_none _ _ _ voice.1 in
+      let free = unless_none _ _ _ its.1 in
+      asked (call.Request i q) a es s _ i (request.requested k q (s.last + 1) r) refl refl (λ n. refl) (λ m. refl) made (requested_whose k q (s.last + 1) r ∙ at-whose whose s.records i r e)
+      (ap (λ x. owes (errand_in x)) e ∙ not-true _ free.0) (requested_owes k q (s.last + 1) r) (requested_left k q (s.last + 1) r) refl refl R
+
+  requested_by : (q : Request) (o : Option RequestKind) → requesting.kind_denial s i q o ≡ None → Replies ((call.Request i q, a) ∷ es) (requesting.requested_as s q o (sgsn.record_at s i))
+  requested_by q None d = absurd (none-some _ (sym d))
+  requested_by q (Some k) d = requested_as q k (sgsn.record_at s i) refl (unless_none _ _ _ d).1
+
+  detached_as : (code : ℕ) (k : DetachKind) (x : Option Context) → at whose s.records i ≡ x → detaching.record_denial k x ≡ None → Replies ((call.Detach i code, a) ∷ es) (detaching.detached_as s (Some k) x)
+  detached_as code k None e d = absurd (none-some _ (sym d))
+  detached_as code k (Some r) e d =
+      asked (call.Detach i code) a es s _ i (detach.detached k (s.last + 1) r) refl refl (λ n. refl) (λ m. refl) made (detached_whose k (s.last + 1) r ∙ at-whose whose s.records i r e)
+      (ap (λ x. owes (errand_in x)) e ∙ not-true _ (unless_none _ _ _ d).0) (detached_owes k (s.last + 1) r) (detached_left k (s.last + 1) r) refl refl R
+
+  detached_by : (code : ℕ) (o : Option DetachKind) → detaching.kind_denial s i o ≡ None → Replies ((call.Detach i code, a) ∷ es) (detaching.detached_as s o (sgsn.record_at s i))
+  detached_by code None d = absurd (none-some _ (sym d))
+  detached_by code (Some k) d = detached_as code k (sgsn.record_at s i) refl (unless_none _ _ _ d).1
+
+-- what a frame makes
+paged_kept : (s : sgsn.State) (f : Frame) (p : Peer) (i : Imsi) (x : Option Context) → at whose s.records i ≡ x → Kept s (deliver.paged_by s f p x)
+paged_kept s f p i None e = kept_same s s refl refl
+paged_kept s f p i (Some r) e = kept_stored s _ i (page.paged p.vlr r) (paged_whose p.vlr r ∙ at-whose whose s.records i r e) (stays_same (errand_of s i) _ (paged_errand p.vlr r ∙ sym (ap errand_in e))) refl refl
+
+answered_kept : (s : sgsn.State) (f : Frame) (p : Peer) (i : Imsi) (x : Option Context) → at whose s.records i ≡ x → Kept s (deliver.answered_by s f p x)
+answered_kept s f p i None e = kept_same s s refl refl
+answered_kept s f p i (Some r) e = kept_stored s _ i (answered p.vlr f.answers p.row.reset f.message r) (answered_whose p.vlr f.answers p.row.reset f.message r ∙ at-whose whose s.records i r e)
+    (subst (λ x. Stays x (answered p.vlr f.answers p.row.reset f.message r).errand) (sym (ap errand_in e)) (answered_stays p.vlr f.answers p.row.reset f.message r)) refl refl
+
+taken_kept : (s : sgsn.State) (f : Frame) (p : Peer) (k : Message) → Kept s (deliver.taken_by s f p k)
+taken_kept s f p (Reset e) = kept_map s _ (doubtful_at p.vlr) (doubtful_whose p.vlr) (doubtful_errand p.vlr) refl refl
+taken_kept s f p (ResetAcknowledge e) = kept_same s _ refl refl
+taken_kept s f p (Paging i t c) = paged_kept s f p i _ refl
+taken_kept s f p (PagingFailure i c) = answered_kept s f p i _ refl
+taken_kept s f p (MobileStatus i c) = answered_kept s f p i _ refl
+taken_kept s f p (LuRequest i u o w c) = answered_kept s f p i _ refl
+taken_kept s f p (LuAccept i w) = answered_kept s f p i _ refl
+taken_kept s f p (LuReject i c) = answered_kept s f p i _ refl
+taken_kept s f p (GprsDetachIndication i t) = answered_kept s f p i _ refl
+taken_kept s f p (GprsDetachAcknowledge i t) = answered_kept s f p i _ refl
+taken_kept s f p (ImsiDetachIndication i t) = answered_kept s f p i _ refl
+taken_kept s f p (ImsiDetachAcknowledge i t) = answered_kept s f p i _ refl
+
+moved_kept : (s : sgsn.State) (f : Frame) (p : Option Peer) → Kept s (deliver.taken s f p)
+moved_kept s f None = kept_same s s refl refl
+moved_kept s f (Some p) = taken_kept s f p f.message
+
+got_kept : (s : sgsn.State) (got : Option (Result Frame Fault)) → Kept s (receive.moved_by sgsn.own_of sgsn.last_of deliver.moved_by_frame deliver.sends_by_frame deliver.answer_by_frame s got)
+got_kept s None = kept_same s s refl refl
+got_kept s (Some (Err e)) = kept_same s s refl refl
+got_kept s (Some (Ok f)) = moved_kept s f (peer_from f s.peers)
 
 module _ {C : Type 0} (takes : C → NodeNumber → Option (List ℕ) → C → Type 0) (puts : C → List ℕ → C → Type 0) where
   pub replies_step : (c : Call) (a : Answer) (es : Events) (x y : View C) → Step takes puts c a x y → Replies es x.sgsn → Replies ((c, a) ∷ es) y.sgsn
