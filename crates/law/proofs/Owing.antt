@@ -1,17 +1,15 @@
 -- What moves of the SGSN do to what is owed.
-use Rattle.std.proofs.Common.{◌≡◌, ℕ, ◌+◌, ◌-◌, ◌*◌, ◌≤◌, ◌⊎◌, inl, inr, ⊎_elim, Bool, true, false, not, cond, ◌&&◌, ltb, List, [], ◌∷◌, map, length, is_some, Some, None, Option, refl, sym, ap, ◌∙◌, subst, arith}
-use Rattle.std.specs.List.{count_by, find}
+use Rattle.std.proofs.Common.{◌≡◌, ℕ, ◌+◌, ◌*◌, ◌≤◌, Bool, true, false, cond, ltb, List, [], ◌∷◌, map, length, Some, None, Option, refl, sym, ap, ◌∙◌, subst, arith}
+use Rattle.std.specs.List.{count_by}
 use Rattle.std.specs.Option.{option_map}
-use Rattle.std.proofs.lemmas.Bool.{true≢false, false≢true, and_parts, and_right, cases_Bool, cond-true, cond-false}
 use Rattle.std.proofs.lemmas.Bool.Decides.{nat_tests}
-use Rattle.std.proofs.lemmas.Option.{none-some, same_Some}
 use Rattle.std.proofs.lemmas.List.Sums.{sum_by-cons}
 use Rattle.imsi.specs.declared.Imsi.{Imsi}
 use Rattle.elements.specs.declared.node.VlrNumber.{VlrNumber}
 use Rattle.messages.specs.declared.message.Message.{Message}
 use Rattle.directory.specs.Lookup.{at, stored}
 use Rattle.directory.specs.Order.{rank_of, same}
-use Rattle.directory.proofs.Lookups.{at-stored, at-map, at-whose, same_true}
+use Rattle.directory.proofs.Lookups.{at-stored, at-map, same_true}
 use Rattle.station.specs.Rows.{repeat_now}
 use Rattle.context.specs.declared.context.Context.{Context}
 use Rattle.context.specs.declared.errand.Errand.{Errand}
@@ -21,9 +19,9 @@ use Rattle.context.specs.declared.kind.Request.{Request}
 use Rattle.context.specs.declared.kind.RequestKind.{RequestKind}
 use Rattle.context.specs.declared.kind.DetachKind.{DetachKind}
 use Rattle.context.specs.Answering.{answered}
-use Rattle.context.specs.Contexts.{whose, doubtful, doubtful_at}
+use Rattle.context.specs.Contexts.{whose, doubtful_at}
 use Rattle.context.specs.Detaching as detach
-use Rattle.context.specs.Errands.{is_open, owes}
+use Rattle.context.specs.Errands.{owes}
 use Rattle.context.specs.Paging as page
 use Rattle.context.specs.Requesting as request
 use Rattle.context.specs.Ticking.{repeats_of, ticked_errand, context_ticked, context_sends}
@@ -33,9 +31,8 @@ use Rattle.sgsn.specs.Recovering.{records_ticked}
 use Rattle.sgsn.specs.Recovering as recovering
 use Rattle.sgsn.specs.Settling.{settled_errand}
 use Rattle.sgsn.specs.State as sgsn
-use Rattle.law.specs.Counts.{accepted, accepted_calls, asks, settles, is_of, ticks, owes_reply, ticks_since}
-use Rattle.law.specs.Laws.{Balanced, Owed, Timely, owing}
-use Rattle.law.specs.Steps.{Events}
+use Rattle.law.specs.Counts.{ticks}
+use Rattle.law.specs.Laws.{owing}
 use Rattle.law.specs.Tables.{errand_in, errand_of}
 
 -- how many ticks an open request or detach can still take
@@ -147,11 +144,11 @@ ticked-at last (r ∷ rs) m =
     let x = context_ticked last r in
     subst (λ i. (n : ℕ) × (cond (same m i) (Some x) (cond (ltb (rank_of m) (rank_of i)) None (at whose (records_ticked next rs) m)) ≡ option_map (context_ticked n) (cond (same m (whose r)) (Some r) (cond (ltb (rank_of m) (rank_of (whose r))) None (at whose rs m)))))
     (sym (ticked_whose last r)) (by_place (same m (whose r)) (ltb (rank_of m) (rank_of (whose r))) (ticked-at next rs m))
-    where
-      by_place : (a b : Bool) → (n : ℕ) × (at whose (records_ticked (last + length (context_sends r)) rs) m ≡ option_map (context_ticked n) (at whose rs m)) → (n : ℕ) × (cond a (Some (context_ticked last r)) (cond b None (at whose (records_ticked (last + length (context_sends r)) rs) m)) ≡ option_map (context_ticked n) (cond a (Some r) (cond b None (at whose rs m))))
-      by_place true b rest = (last, refl)
-      by_place false true rest = (last, refl)
-      by_place false false rest = rest
+  where
+    by_place : (a b : Bool) → (n : ℕ) × (at whose (records_ticked (last + length (context_sends r)) rs) m ≡ option_map (context_ticked n) (at whose rs m)) → (n : ℕ) × (cond a (Some (context_ticked last r)) (cond b None (at whose (records_ticked (last + length (context_sends r)) rs) m)) ≡ option_map (context_ticked n) (cond a (Some r) (cond b None (at whose rs m))))
+    by_place true b rest = (last, refl)
+    by_place false true rest = (last, refl)
+    by_place false false rest = rest
 
 errand_map : (f : Context → Context) → ((r : Context) → (f r).errand ≡ r.errand) → (o : Option Context) → errand_in (option_map f o) ≡ errand_in o
 errand_map f keeps None = refl

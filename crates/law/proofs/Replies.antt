@@ -1,10 +1,9 @@
 -- What is owed to the mobiles after any calls, and how long it can still take.
-use Rattle.std.proofs.Common.{◌≡◌, ℕ, ◌+◌, ◌-◌, ◌*◌, ◌≤◌, ◌⊎◌, inl, inr, ⊎_elim, Bool, true, false, not, cond, ◌&&◌, List, [], ◌∷◌, map, length, is_some, Some, None, Ok, Err, Option, Result, refl, sym, ap, ◌∙◌, subst, arith}
+use Rattle.std.proofs.Common.{◌≡◌, ℕ, ◌+◌, ◌≤◌, ◌⊎◌, inl, inr, Bool, true, false, cond, ◌&&◌, List, [], ◌∷◌, is_some, Some, None, Ok, Err, Option, Result, refl, sym, ap, ◌∙◌, subst, arith}
 use Rattle.std.specs.List.{count_by}
-use Rattle.std.specs.Option.{option_map}
-use Rattle.std.proofs.lemmas.Bool.{true≢false, false≢true, and_right, not-true, cond-true, cond-false}
+use Rattle.std.proofs.lemmas.Bool.{true≢false, and_right, not-true, cond-true, cond-false}
 use Rattle.std.proofs.lemmas.Bool.Decides.{nat_tests}
-use Rattle.std.proofs.lemmas.Option.{none-some, same_Some}
+use Rattle.std.proofs.lemmas.Option.{none-some}
 use Rattle.imsi.specs.declared.Imsi.{Imsi}
 use Rattle.elements.specs.declared.fault.Fault.{Fault}
 use Rattle.elements.specs.declared.node.NodeNumber.{NodeNumber}
@@ -15,8 +14,10 @@ use Rattle.frames.specs.declared.frame.Frame.{Frame}
 use Rattle.carrier.specs.Order.{Stamps}
 use Rattle.directory.specs.Lookup.{at, stored}
 use Rattle.directory.specs.Order.{same}
-use Rattle.directory.proofs.Lookups.{at-whose, same_true}
+use Rattle.directory.proofs.Lookups.{at-whose}
 use Rattle.station.specs.declared.denial.Denial.{Denial}
+use Rattle.station.specs.declared.receiving.Delivery.{Delivery}
+use Rattle.station.specs.declared.receiving.Refusal.{Refusal}
 use Rattle.station.specs.declared.sending.Outgoing.{Outgoing}
 use Rattle.station.specs.Calls.{unless, Decided, Called}
 use Rattle.station.specs.Receiving as receive
@@ -37,7 +38,6 @@ use Rattle.context.specs.Detaching as detach
 use Rattle.context.specs.Errands.{is_open, owes}
 use Rattle.context.specs.Paging as page
 use Rattle.context.specs.Requesting as request
-use Rattle.context.specs.Ticking.{context_ticked}
 use Rattle.sgsn.specs.declared.peer.Peer.{Peer}
 use Rattle.sgsn.specs.Delivering as deliver
 use Rattle.sgsn.specs.Detaching as detaching
@@ -46,6 +46,7 @@ use Rattle.sgsn.specs.Peers.{peer_from}
 use Rattle.sgsn.specs.Recovering as recovering
 use Rattle.sgsn.specs.Requesting as requesting
 use Rattle.sgsn.specs.Settling as settling
+use Rattle.sgsn.specs.Settling.{settled_errand}
 use Rattle.sgsn.specs.State as sgsn
 use Rattle.vlr.specs.State as vlr
 use Rattle.law.specs.declared.call.Call.{Call}
@@ -53,7 +54,8 @@ use Rattle.law.specs.declared.call.Call.TheVariants as call
 use Rattle.law.specs.declared.call.Answer.{Answer}
 use Rattle.law.specs.Counts.{accepted, accepted_calls, asks, settles, is_of, ticks, owes_reply, ticks_since}
 use Rattle.law.specs.Laws.{Balanced, Owed, Timely, owing}
-use Rattle.law.specs.Steps.{Events, Step, New, Came, SgsnDecides, SgsnCalls, SgsnSettles, SgsnDelivers, OneVlr, AtVlr, is_vlr, is_sgsn, called, settled}
+use Rattle.law.specs.Steps.Came.{new, next}
+use Rattle.law.specs.Steps.{Events, Step, Came, SgsnDecides, SgsnCalls, AtVlr, AtNode, is_vlr, is_sgsn, called, settled}
 use Rattle.law.specs.Tables.{View, errand_in, errand_of}
 use Rattle.law.proofs.Owing.{left_of, Stays, stays_same, one, Kept, kept_same, kept_map, kept_stored, errand-stored, owing-stored, answered_stays, answered_whose, paged_errand, paged_whose, doubtful_errand, doubtful_whose, requested_owes, requested_left, requested_whose, detached_owes, detached_left, detached_whose, settled_owes, settled_whose, ticked_owed, ticked_time}
 
@@ -71,7 +73,6 @@ timely_for t (errand.Ended v) left late = refl
 pub timely : (es : Events) (s : sgsn.State) → Replies es s → Timely es s
 timely es s R m owed late = timely_for (ticks_since s.own m es) (errand_of s m) (R.left m) late
 
-
 pub replies_new : (s : sgsn.State) → s.records ≡ [] → Replies [] s
 replies_new s e =
     let nothing : owing s ≡ 0 = ap (λ rs. count_by (λ r. owes r.errand) rs) e in
@@ -79,8 +80,8 @@ replies_new s e =
       balanced = omega arith;
       owed = λ m. ap (λ rs. owes (errand_in (at whose rs m))) e;
       left = λ m o q.
-        let clash : errand.Idle ≡ errand.Open o = ap (λ rs. errand_in (at whose rs m)) (sym e) ∙ q in
-        absurd (cc);
+          let clash : errand.Idle ≡ errand.Open o = ap (λ rs. errand_in (at whose rs m)) (sym e) ∙ q in
+          absurd (cc);
     }
 
 between : (x y z : Bool) → (x && z) ≡ false → (x && (y && z)) ≡ false
@@ -106,9 +107,9 @@ module _ (c : Call) (a : Answer) (es : Events) where
         balanced = omega (arith, cond-false (asks c && accepted a) (1 + accepted_calls asks es) (accepted_calls asks es) ask, cond-false (settles c && accepted a) (1 + accepted_calls settles es) (accepted_calls settles es) settle, K.count, R.balanced);
         owed = λ m. (K.stays m).0 ∙ R.owed m ∙ sym (cond-false _ _ _ (none m) ∙ cond-false _ _ _ (between (settles c) (is_of m c) (accepted a) settle));
         left = λ m o e.
-          let since : ticks_since t.own m ((c, a) ∷ es) ≡ ticks_since s.own m es = ap (λ n. ticks_since n m ((c, a) ∷ es)) K.own ∙ cond-false _ _ _ (none m) ∙ cond-false _ _ _ tick in
-          let l = R.left m o ((K.stays m).1 o e) in
-          (omega arith, l.1);
+            let since : ticks_since t.own m ((c, a) ∷ es) ≡ ticks_since s.own m es = ap (λ n. ticks_since n m ((c, a) ∷ es)) K.own ∙ cond-false _ _ _ (none m) ∙ cond-false _ _ _ tick in
+            let l = R.left m o ((K.stays m).1 o e) in
+            (omega arith, l.1);
       }
 
   -- a call that was denied
@@ -133,21 +134,21 @@ module _ (c : Call) (a : Answer) (es : Events) where
           R.balanced,
         );
         owed = λ m. ap owes (errand_after s t i r its e m) ∙ owed_by m (same m i)
-          ∙ sym ((λ x. cond (here m x) true (cond (settle x && (is_of m c && accepted a)) false (owes_reply m es))));
+            ∙ sym ((λ x. cond (here m x) true (cond (settle x && (is_of m c && accepted a)) false (owes_reply m es))));
         left = λ m o q.
-          let since : ticks_since t.own m ((c, a) ∷ es) ≡ cond (same m i) 0 (ticks_since s.own m es) =
-          ap (λ n. ticks_since n m ((c, a) ∷ es)) own ∙ (λ x. cond (here m x) 0 (cond (tick s.own x && accepted a) (1 + ticks_since s.own m es) (ticks_since s.own m es))) in
-          let l = left_by m (same m i) o (sym (errand_after s t i r its e m) ∙ q) in
-          (omega arith, l.1);
+            let since : ticks_since t.own m ((c, a) ∷ es) ≡ cond (same m i) 0 (ticks_since s.own m es) =
+            ap (λ n. ticks_since n m ((c, a) ∷ es)) own ∙ (λ x. cond (here m x) 0 (cond (tick s.own x && accepted a) (1 + ticks_since s.own m es) (ticks_since s.own m es))) in
+            let l = left_by m (same m i) o (sym (errand_after s t i r its e m) ∙ q) in
+            (omega arith, l.1);
       }
-      where
-        owed_by : (m : Imsi) (b : Bool) → owes (cond b r.errand (errand_of s m)) ≡ cond b true (owes_reply m es)
-        owed_by m true = now
-        owed_by m false = R.owed m
+    where
+      owed_by : (m : Imsi) (b : Bool) → owes (cond b r.errand (errand_of s m)) ≡ cond b true (owes_reply m es)
+      owed_by m true = now
+      owed_by m false = R.owed m
 
-        left_by : (m : Imsi) (b : Bool) (o : Open) → cond b r.errand (errand_of s m) ≡ errand.Open o → (cond b 0 (ticks_since s.own m es) + left_of o ≤ 32) × (1 ≤ o.ticks)
-        left_by m true o q = let l = left o q in (omega arith, l.1)
-        left_by m false o q = R.left m o q
+      left_by : (m : Imsi) (b : Bool) (o : Open) → cond b r.errand (errand_of s m) ≡ errand.Open o → (cond b 0 (ticks_since s.own m es) + left_of o ≤ 32) × (1 ≤ o.ticks)
+      left_by m true o q = let l = left o q in (omega arith, l.1)
+      left_by m false o q = R.left m o q
 
 -- a reply that was settled
 settled_one : (i : Imsi) (a : Answer) (es : Events) (s t : sgsn.State) (r : Context) → accepted a ≡ true → whose r ≡ i → owes (errand_of s i) ≡ true → owes r.errand ≡ false → t.own ≡ s.own → t.records ≡ stored whose r s.records → Replies es s → Replies ((call.Settle i, a) ∷ es) t
@@ -155,9 +156,9 @@ settled_one i a es s t r made its owed now own e R = record {
   balanced = omega (arith, cond-true (accepted a) (1 + accepted_calls settles es) (accepted_calls settles es) made, owing_after s t i r its e, ap one owed, ap one now, R.balanced);
   owed = λ m. ap owes (errand_after s t i r its e m) ∙ owed_by m (same m i) ∙ sym (ap (λ b. cond b false (owes_reply m es)) ((λ x. same m i && made x) ∙ and_true (same m i)));
   left = λ m o q.
-    let since : ticks_since t.own m es ≡ ticks_since s.own m es = ap (λ n. ticks_since n m es) own in
-    let l = left_by m (same m i) o (sym (errand_after s t i r its e m) ∙ q) in
-    (omega arith, l.1);
+      let since : ticks_since t.own m es ≡ ticks_since s.own m es = ap (λ n. ticks_since n m es) own in
+      let l = left_by m (same m i) o (sym (errand_after s t i r its e m) ∙ q) in
+      (omega arith, l.1);
 }
   where
     owed_by : (m : Imsi) (b : Bool) → owes (cond b r.errand (errand_of s m)) ≡ cond b false (owes_reply m es)
@@ -174,9 +175,9 @@ ticked_one n a es s own made R = record {
   balanced = omega (arith, ticked_owed s, R.balanced);
   owed = λ m. (ticked_time s m 0).0 ∙ R.owed m;
   left = λ m o q.
-    let since : ticks_since s.own m ((call.Tick n, a) ∷ es) ≡ 1 + ticks_since s.own m es = cond-true _ _ _ (λ x. own x && made x) in
-    let l = (ticked_time s m (ticks_since s.own m es)).1 (R.left m) o q in
-    (omega arith, l.1);
+      let since : ticks_since s.own m ((call.Tick n, a) ∷ es) ≡ 1 + ticks_since s.own m es = cond-true _ _ _ (λ x. own x && made x) in
+      let l = (ticked_time s m (ticks_since s.own m es)).1 (R.left m) o q in
+      (omega arith, l.1);
 }
 
 -- How a call that can be denied ends.
@@ -194,6 +195,9 @@ unless_none true d o e = (refl, e)
 unless_none false d o e = absurd (none-some d (sym e))
 
 -- What each call of the SGSN makes.
+is_new : (s : sgsn.State) (i : Imsi) (code : ℕ) → enrolling.enrol_denial s i code ≡ None → is_some (sgsn.record_at s i) ≡ false
+is_new s i code d = grind (arith, nat_tests)
+
 enrolled_kept : (s : sgsn.State) (i : Imsi) (o : Option ServiceClass) (x : Option Context) → at whose s.records i ≡ x → is_some x ≡ false → Kept s (enrolling.enrolled_as s i o)
 enrolled_kept s i None x e f = kept_same s s refl refl
 enrolled_kept s i (Some c) None e f = kept_stored s _ i (new_context i c) refl (stays_same (errand_of s i) errand.Idle (sym (ap errand_in e))) refl refl
@@ -263,9 +267,68 @@ got_kept s None = kept_same s s refl refl
 got_kept s (Some (Err e)) = kept_same s s refl refl
 got_kept s (Some (Ok f)) = moved_kept s f (peer_from f s.peers)
 
+kept_still : (s t : sgsn.State) → t ≡ s → Kept s t
+kept_still s t e = kept_same s t (ap (λ u. u.own) e) (ap (λ u. u.records) e)
+
+-- what a settle makes
+settling_owes : (worn : Bool) (e : Errand) (v : Verdict) → settling.settling_errand worn e ≡ Ok v → owes e ≡ true
+settling_owes worn errand.Idle v q = absurd (cc)
+settling_owes worn (errand.Open o) v q = refl
+settling_owes worn (errand.Ended w) v q = refl
+
+settled_as : (i : Imsi) (a : Answer) (es : Events) (s : sgsn.State) (v : Verdict) (x : Option Context) → at whose s.records i ≡ x → settling.settling_record (is_worn s.last) x ≡ Ok v → accepted a ≡ true → Replies es s → Replies ((call.Settle i, a) ∷ es) (settling.settled_as s x)
+settled_as i a es s v None e q made R = absurd (cc)
+settled_as i a es s v (Some r) e q made R =
+    settled_one i a es s _ (settled_errand r.errand r) made (settled_whose r ∙ at-whose whose s.records i r e) (ap (λ x. owes (errand_in x)) e ∙ settling_owes (is_worn s.last) r.errand v q) (settled_owes r) refl refl R
+
+settled_by : (i : Imsi) (a : Answer) (es : Events) (s t : sgsn.State) (r : Result Verdict Denial) → settling.settling s i ≡ r → a ≡ settled r → t ≡ settling.after_settling s i r → Replies es s → Replies ((call.Settle i, a) ∷ es) t
+settled_by i a es s t (Ok v) q is after R =
+    subst (λ u. Replies ((call.Settle i, a) ∷ es) u) (sym after) (settled_as i a es s v (sgsn.record_at s i) refl q (ap accepted is) R)
+settled_by i a es s t (Err d) q is after R = denied (call.Settle i) a es s t (ap accepted is) after R
+
 module _ {C : Type 0} (takes : C → NodeNumber → Option (List ℕ) → C → Type 0) (puts : C → List ℕ → C → Type 0) where
+  decided : (d : Option Denial) (s after t : sgsn.State) (os : List Outgoing) (r : Result Unit Denial) (c e : C) → Called sgsn.own_of sgsn.last_of puts d tt s after os r c t e → Decided d tt s after r t
+  decided (Some d) s after t os r c e m = (m.0, m.1)
+  decided None s after t os r c e m = (m.0, m.1)
+
+  decides : (c : Call) (a : Answer) (es : Events) (d : Option Denial) (after : sgsn.State) (x y : View C) → SgsnDecides takes puts d after a x y → (d ≡ None → accepted a ≡ true → Replies ((c, a) ∷ es) after) → Replies es x.sgsn → Replies ((c, a) ∷ es) y.sgsn
+  decides c a es d after x y D made R = by_outcome c a es d x.sgsn after y.sgsn (outcome d x.sgsn after y.sgsn D.result a D.answered D.decided) made R
+
+  calls : (c : Call) (a : Answer) (es : Events) (d : Option Denial) (after : sgsn.State) (os : List Outgoing) (x y : View C) → SgsnCalls takes puts d after os a x y → (d ≡ None → accepted a ≡ true → Replies ((c, a) ∷ es) after) → Replies es x.sgsn → Replies ((c, a) ∷ es) y.sgsn
+  calls c a es d after os x y D made R =
+      by_outcome c a es d x.sgsn after y.sgsn (outcome d x.sgsn after y.sgsn D.result a D.answered (decided d x.sgsn after y.sgsn os D.result x.carrier y.carrier D.made)) made R
+
+  delivered_kept : (b : Bool) (r : Result Delivery Refusal) (s : sgsn.State) (c : C) (t : sgsn.State) (d : C) → receive.Asked sgsn.own_of sgsn.last_of deliver.moved_by_frame deliver.sends_by_frame deliver.answer_by_frame takes puts b r s c t d → Kept s t
+  delivered_kept true r s c t d m = kept_still s t m.1
+  delivered_kept false r s c t d m = subst (λ u. Kept s u) (sym m.after) (got_kept s m.got)
+
+  -- a call at a VLR leaves the SGSN
+  at_vlr : (n : NodeNumber) (Makes : Answer → vlr.State → C → vlr.State → C → Type 0) (b : Bool) (a : Answer) (x y : View C) → AtVlr takes puts n Makes b a x y → y.sgsn ≡ x.sgsn
+  at_vlr n Makes true a x y m = m.sgsn
+  at_vlr n Makes false a x y m = ap (λ z. z.sgsn) m.1
+
+  at_node : (P : Type 0) (b : Bool) (Sgsn : Answer → View C → View C → Type 0) (n : NodeNumber) (Makes : Answer → vlr.State → C → vlr.State → C → Type 0) (a : Answer) (x y : View C) → AtNode takes puts b Sgsn n Makes a x y → (b ≡ true → Sgsn a x y → P) → (b ≡ false → y.sgsn ≡ x.sgsn → P) → P
+  at_node P true Sgsn n Makes a x y m here there = here refl m
+  at_node P false Sgsn n Makes a x y m here there = there refl (at_vlr n Makes (is_vlr n x.vlrs) a x y m)
+
   pub replies_step : (c : Call) (a : Answer) (es : Events) (x y : View C) → Step takes puts c a x y → Replies es x.sgsn → Replies ((c, a) ∷ es) y.sgsn
-  replies_step c a es x y S R = ?
+  replies_step (call.Enrol i code) a es x y S R = decides (call.Enrol i code) a es _ _ x y S (λ d made. quiet (call.Enrol i code) a es x.sgsn _ refl refl refl (enrolled_kept x.sgsn i (class_in code) (sgsn.record_at x.sgsn i) refl (is_new x.sgsn i code d)) R) R
+  replies_step (call.Attach i) a es x y S R = decides (call.Attach i) a es _ _ x y S (λ d made. quiet (call.Attach i) a es x.sgsn _ refl refl refl (attached_kept x.sgsn i (sgsn.record_at x.sgsn i) refl) R) R
+  replies_step (call.Request i q) a es x y S R = calls (call.Request i q) a es _ _ _ x y S (λ d made. requested_by x.sgsn i a es made R q (request_kind_in q.kind) (unless_none _ _ _ d).1) R
+  replies_step (call.Detach i code) a es x y S R = calls (call.Detach i code) a es _ _ _ x y S (λ d made. detached_by x.sgsn i a es made R code (detach_kind_in code) (unless_none _ _ _ d).1) R
+  replies_step (call.Settle i) a es x y S R = settled_by i a es x.sgsn y.sgsn (settling.settling x.sgsn i) refl S.answered S.after R
+  replies_step (call.EnrolAtVlr n i cause) a es x y S R = quiet (call.EnrolAtVlr n i cause) a es x.sgsn y.sgsn refl refl refl (kept_still x.sgsn y.sgsn (at_vlr n.node _ (is_vlr n.node x.vlrs) a x y S)) R
+  replies_step (call.Page n i t ch) a es x y S R = quiet (call.Page n i t ch) a es x.sgsn y.sgsn refl refl refl (kept_still x.sgsn y.sgsn (at_vlr n.node _ (is_vlr n.node x.vlrs) a x y S)) R
+  replies_step (call.Lose n) a es x y S R = at_node (Replies ((call.Lose n, a) ∷ es) y.sgsn) (is_sgsn takes puts n x) _ n _ a x y S
+      (λ here m. calls (call.Lose n) a es _ _ _ x y m (λ d made. quiet (call.Lose n) a es x.sgsn _ refl refl refl (lost_kept x.sgsn) R) R)
+      (λ here still. quiet (call.Lose n) a es x.sgsn y.sgsn refl refl refl (kept_still x.sgsn y.sgsn still) R)
+  replies_step (call.Deliver n) a es x y S R = at_node (Replies ((call.Deliver n, a) ∷ es) y.sgsn) (is_sgsn takes puts n x) _ n _ a x y S
+      (λ here m. quiet (call.Deliver n) a es x.sgsn y.sgsn refl refl refl (delivered_kept (is_worn x.sgsn.last) m.result x.sgsn x.carrier y.sgsn y.carrier m.made) R)
+      (λ here still. quiet (call.Deliver n) a es x.sgsn y.sgsn refl refl refl (kept_still x.sgsn y.sgsn still) R)
+  replies_step (call.Tick n) a es x y S R = at_node (Replies ((call.Tick n, a) ∷ es) y.sgsn) (is_sgsn takes puts n x) _ n _ a x y S
+      (λ here m. calls (call.Tick n) a es _ _ _ x y m (λ d made. ticked_one n a es x.sgsn here made R) R)
+      (λ here still. quiet (call.Tick n) a es x.sgsn y.sgsn refl refl (ap (λ b. b && accepted a) here) (kept_still x.sgsn y.sgsn still) R)
 
   pub replies : (waiting : C → List (List ℕ)) (latest : C → Stamps) (es : Events) (x : View C) → Came waiting latest takes puts es x → Replies es x.sgsn
-  replies waiting latest es x came = ?
+  replies waiting latest [] x (new N) = replies_new x.sgsn (ap (λ u. u.records) N.sgsn)
+  replies waiting latest ((c, a) ∷ es) x (next {x = before} came S) = replies_step c a es before x S (replies waiting latest es before came)
