@@ -4,8 +4,10 @@ pub mod Calls
 pub mod Carried
 pub mod Keeping
 pub mod OneRecord
+pub mod Owing
 pub mod Pairs
 pub mod Premises
+pub mod Replies
 pub mod Sendings
 pub mod SgsnMoves
 pub mod Started
