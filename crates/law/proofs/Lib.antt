@@ -2,5 +2,9 @@ pub mod Asks
 pub mod OneRecord
 pub mod Pairs
 pub mod Premises
+pub mod Quieter
+pub mod Rows
+pub mod Served
 pub mod SgsnMoves
+pub mod Taken
 pub mod VlrMoves
