@@ -7,9 +7,13 @@ pub mod OneRecord
 pub mod Owing
 pub mod Pairs
 pub mod Premises
+pub mod Quieter
 pub mod Replies
+pub mod Rows
 pub mod Sendings
+pub mod Served
 pub mod SgsnMoves
 pub mod Started
+pub mod Taken
 pub mod VlrMoves
 pub mod Whole
