@@ -28,7 +28,8 @@ use Rattle.sgsn.specs.Detaching as detach
 use Rattle.vlr.specs.State as vlr
 use Rattle.law.specs.Sound.{asked_in, update_stamp, reset_to}
 use Rattle.law.proofs.Premises.{Sends, SgsnMove}
-use Rattle.law.proofs.OneRecord.{none_unsure, unsure_unsure, still, silent, quiet, told}
+use Rattle.law.proofs.Quieter.{none_unsure, unsure_unsure}
+use Rattle.law.proofs.OneRecord.{still, silent, quiet, told}
 
 -- a call that is not denied passed each question
 pub passed : (b : Bool) (d : Denial) (o : Option Denial) → unless b d o ≡ None → b ≡ true
@@ -52,8 +53,8 @@ module _ (s : sgsn.State) (v : vlr.State) (ws : List (List ℕ)) (ls : Stamps) (
   requests : (i : Imsi) (r : Context) (q : Request) (k : RequestKind) (b : Bool) (c : Option Class) → sgsn.record_at s i ≡ Some r → is_some c ≡ true
       → SgsnMove s (sgsn.with_sent s (cond b (context.done_at_once q r) (context.asked k q (s.last + 1) r)) (cond b [] (context.update_for k q r c))) v ws ls (Sends s.own s.last (cond b [] (context.update_for k q r c)) v.own)
   requests i r q k true c e voice =
-      quiet s v ws ls B (Sends s.own s.last [] v.own) (λ g n. n.0) (sgsn.with_sent s (context.done_at_once q r) []) refl refl (omega arith) i r (context.done_at_once q r) e refl refl
-      (λ n h. h) (λ n a. absurd (none-some n a))
+      quiet s v ws ls B (Sends s.own s.last [] v.own) (λ g n. n.0) (sgsn.with_sent s (context.done_at_once q r) []) refl refl (omega arith) i r (context.done_at_once q r) e refl
+      (record { mobile = refl; sure = λ n h. h; asking = λ a n h. absurd (none-some n h) })
   requests i r q k false None e voice = absurd (true≢false (sym voice))
   requests i r q k false (Some c) e voice =
       told s v ws ls B (context.asked k q (s.last + 1) r) (record { to = q.vlr.node; answers = 0; message = LuRequest r.imsi (update_type k) q.old_area q.new_area c }) refl

@@ -6,8 +6,12 @@ pub mod Keeping
 pub mod OneRecord
 pub mod Pairs
 pub mod Premises
+pub mod Quieter
+pub mod Rows
 pub mod Sendings
+pub mod Served
 pub mod SgsnMoves
 pub mod Started
+pub mod Taken
 pub mod VlrMoves
 pub mod Whole

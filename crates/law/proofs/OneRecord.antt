@@ -24,13 +24,7 @@ use Rattle.vlr.specs.State as vlr
 use Rattle.law.specs.Tables.{mark_in, errand_in, marked, errand_of}
 use Rattle.law.specs.Sound.{harms, is_acknowledgement, Sure, asked_in, asked, peer_of, reset_in, reset_to, due_in, due_to}
 use Rattle.law.proofs.Premises.{Granted, Sends, SgsnMove}
-
--- nothing is sure where no VLR is, or is not
-pub none_unsure : (n : VlrNumber) → mark.None ≡ mark.Confirmed n → ⊥
-none_unsure n e = let z : ◌≡◌ {A = ℕ} 0 1 = cc in omega arith
-
-pub unsure_unsure : (w n : VlrNumber) → mark.Unsure w ≡ mark.Confirmed n → ⊥
-unsure_unsure w n e = let z : ◌≡◌ {A = ℕ} 0 1 = cc in omega arith
+use Rattle.law.proofs.Quieter.{Quieter}
 
 -- the record stored is its mobile's, and any other mobile's is the one before
 pub after_store : (r : Context) (xs : List Context) (m : Imsi) → ((m ≡ whose r) × (at whose (stored whose r xs) m ≡ Some r)) ⊎ ((same m (whose r) ≡ false) × (at whose (stored whose r xs) m ≡ at whose xs m))
@@ -41,10 +35,11 @@ after_store r xs m = ⊎_elim
 
 -- The SGSN goes from s to t, and sends New to v.
 module _ (s t : sgsn.State) (v : vlr.State) (ws : List (List ℕ)) (ls : Stamps) (New : Frame → Type 0) where
-  -- what it must show of its records, if its VLRs' rows stay
+  -- what it must show of its records, if it keeps the same of the RESETs from and to v
   pub record RecordsMove : Type 0 where
     pub own : t.own ≡ s.own
-    pub peers : t.peers ≡ s.peers
+    pub reset : reset_to t v.own ≡ reset_to s v.own
+    pub due : due_to t v.own ≡ due_to s v.own
     pub last : s.last ≤ t.last
     pub stamps : (g : Frame) → New g → (s.last < g.stamp) × (g.stamp ≤ t.last)
     pub sure : (m : Imsi) → Sure t v.own m → Sure s v.own m ⊎ Granted s t v ws ls New m
@@ -70,8 +65,6 @@ module _ (s t : sgsn.State) (v : vlr.State) (ws : List (List ℕ)) (ls : Stamps)
 
   pub rows_stay : ((x : ℕ) → reset_to s v.own ≡ Some x → x ≤ s.last) → RecordsMove → SgsnMove s t v ws ls New
   rows_stay B M =
-      let reset : reset_to t v.own ≡ reset_to s v.own = ap (λ ps. reset_in (peer_of v.own ps)) M.peers in
-      let due : due_to t v.own ≡ due_to s v.own = ap (λ ps. due_in (peer_of v.own ps)) M.peers in
       record {
         own = M.own;
         last = M.last;
@@ -80,9 +73,9 @@ module _ (s t : sgsn.State) (v : vlr.State) (ws : List (List ℕ)) (ls : Stamps)
         harmless = M.harmless;
         asking = M.asking;
         behind = λ m r a b. M.behind m r a;
-        reset = λ r l a. subst (λ o. is_above o r ≡ true) reset a;
-        reset_before = λ x e. omega (arith, B x (sym reset ∙ e), M.last);
-        due = λ x e. inl (sym due ∙ e);
+        reset = λ r l a. subst (λ o. is_above o r ≡ true) M.reset a;
+        reset_before = λ x e. omega (arith, B x (sym M.reset ∙ e), M.last);
+        due = λ x e. inl (sym M.due ∙ e);
         acknowledged = λ g n a. absurd (true≢false (sym a ∙ M.other g n));
       }
 
@@ -91,7 +84,8 @@ module _ (s t : sgsn.State) (v : vlr.State) (ws : List (List ℕ)) (ls : Stamps)
       let look : (m : Imsi) → ((m ≡ whose r) × (sgsn.record_at t m ≡ Some r)) ⊎ ((same m (whose r) ≡ false) × (sgsn.record_at t m ≡ sgsn.record_at s m)) = λ m. subst (λ xs. ((m ≡ whose r) × (at whose xs m ≡ Some r)) ⊎ ((same m (whose r) ≡ false) × (at whose xs m ≡ sgsn.record_at s m))) (sym M.records) (after_store r s.records m) in
       rows_stay B (record {
         own = M.own;
-        peers = M.peers;
+        reset = ap (λ ps. reset_in (peer_of v.own ps)) M.peers;
+        due = ap (λ ps. due_in (peer_of v.own ps)) M.peers;
         last = M.last;
         stamps = λ g n. let p = M.next g n in (omega (arith, p.0), p.1);
         sure = λ m h. ⊎_elim
@@ -123,7 +117,8 @@ module _ (s : sgsn.State) (v : vlr.State) (ws : List (List ℕ)) (ls : Stamps) (
   pub still : (New : Frame → Type 0) → ((g : Frame) → New g → ⊥) → SgsnMove s s v ws ls New
   still New none = rows_stay s s v ws ls New B (record {
     own = refl;
-    peers = refl;
+    reset = refl;
+    due = refl;
     last = omega arith;
     stamps = λ g n. absurd (none g n);
     sure = λ m h. inl h;
@@ -152,17 +147,15 @@ module _ (s : sgsn.State) (v : vlr.State) (ws : List (List ℕ)) (ls : Stamps) (
     open_now = λ g n. absurd (none g n);
   })
 
-  -- a record that was found is changed, no VLR is surer and nothing more is asked; nothing is sent
+  -- a record that was found is stored quieter, and nothing is sent
   pub quiet : (New : Frame → Type 0) → ((g : Frame) → New g → ⊥) → (t : sgsn.State) → t.own ≡ s.own → t.peers ≡ s.peers → s.last ≤ t.last
-      → (i : Imsi) (r r2 : Context) → sgsn.record_at s i ≡ Some r → t.records ≡ stored whose r2 s.records → whose r2 ≡ whose r
-      → ((n : VlrNumber) → r2.mark ≡ mark.Confirmed n → r.mark ≡ mark.Confirmed n)
-      → ((n : ℕ) → asked_in v.own r2.errand ≡ Some n → asked_in v.own r.errand ≡ Some n)
+      → (i : Imsi) (r r2 : Context) → sgsn.record_at s i ≡ Some r → t.records ≡ stored whose r2 s.records → Quieter r r2
       → SgsnMove s t v ws ls New
-  quiet New none t own peers last i r r2 e records same_mobile sure asking =
-      let its : sgsn.record_at s (whose r2) ≡ Some r = ap (sgsn.record_at s) same_mobile ∙ own_record s i r e in
+  quiet New none t own peers last i r r2 e records q =
+      let its : sgsn.record_at s (whose r2) ≡ Some r = ap (sgsn.record_at s) q.mobile ∙ own_record s i r e in
       silent New none t own peers last r2 records
-      (λ h. inl (ap mark_in its ∙ sure _ h))
-      (λ n a. ap (λ o. asked_in v.own (errand_in o)) its ∙ asking n a)
+      (λ h. inl (ap mark_in its ∙ q.sure _ h))
+      (λ n a. ap (λ o. asked_in v.own (errand_in o)) its ∙ q.asking v.own n a)
 
   -- a record is stored of which no VLR is sure, and a frame about its mobile is sent
   pub told : (r : Context) (x : Outgoing)

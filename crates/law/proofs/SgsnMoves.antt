@@ -16,6 +16,7 @@ use Rattle.carrier.specs.Order.{Stamps}
 use Rattle.context.specs.declared.kind.Request.{Request}
 use Rattle.sgsn.specs.State as sgsn
 use Rattle.sgsn.specs.Enrolling as enrol
+use Rattle.sgsn.specs.Peers.{peer_from}
 use Rattle.sgsn.specs.Requesting.{request_denial, requested, request_sends}
 use Rattle.sgsn.specs.Detaching.{detach_denial, detached, detach_sends}
 use Rattle.sgsn.specs.Settling.{settling, after_settling, settled_as, settled_errand}
@@ -24,8 +25,10 @@ use Rattle.sgsn.specs.Recovering.{lost, resets, ticked, tick_sends}
 use Rattle.vlr.specs.State as vlr
 use Rattle.law.specs.Sound.{Pair}
 use Rattle.law.proofs.Premises.{Fit, Given, Sends, SgsnMove}
-use Rattle.law.proofs.OneRecord.{none_unsure, still, silent, quiet}
+use Rattle.law.proofs.Quieter.{none_unsure, same_record}
+use Rattle.law.proofs.OneRecord.{still, silent, quiet}
 use Rattle.law.proofs.Asks.{passed_on, requested_so, detached_so}
+use Rattle.law.proofs.Taken.{taken_by_frame}
 
 module _ (s : sgsn.State) (v : vlr.State) (ws : List (List ℕ)) (ls : Stamps) (F : Fit s) (P : Pair s v ws ls) where
   pub enrolled_moves : (i : Imsi) (code : ℕ) → enrol.enrol_denial s i code ≡ None → SgsnMove s (enrol.enrolled s i code) v ws ls (λ g. ⊥)
@@ -43,8 +46,7 @@ module _ (s : sgsn.State) (v : vlr.State) (ws : List (List ℕ)) (ls : Stamps) (
       attached_so : (o : Option Context) → sgsn.record_at s i ≡ o → SgsnMove s (enrol.attached_as s o) v ws ls (λ g. ⊥)
       attached_so None e = still s v ws ls P.reset_before (λ g. ⊥) (λ g n. n)
       attached_so (Some r) e =
-          quiet s v ws ls P.reset_before (λ g. ⊥) (λ g n. n) (sgsn.with_context s (attached_now r)) refl refl (omega arith) i r (attached_now r) e refl refl
-          (λ n h. h) (λ n a. a)
+          quiet s v ws ls P.reset_before (λ g. ⊥) (λ g n. n) (sgsn.with_context s (attached_now r)) refl refl (omega arith) i r (attached_now r) e refl (record { mobile = refl; sure = λ n h. h; asking = λ a n h. h })
 
   pub requested_moves : (i : Imsi) (q : Request) → request_denial s i q ≡ None → SgsnMove s (requested s i q) v ws ls (Sends s.own s.last (request_sends s i q) v.own)
   requested_moves i q d = requested_so s v ws ls P.reset_before i q (request_kind_in q.kind) (sgsn.record_at s i) refl (passed_on _ _ _ d)
@@ -56,9 +58,9 @@ module _ (s : sgsn.State) (v : vlr.State) (ws : List (List ℕ)) (ls : Stamps) (
   settled_moves i = settled_so (settling s i)
     where
       settles : (r : Context) (e : Errand) → r.errand ≡ e → sgsn.record_at s i ≡ Some r → SgsnMove s (sgsn.with_context s (settled_errand e r)) v ws ls (λ g. ⊥)
-      settles r errand.Idle q f = quiet s v ws ls P.reset_before (λ g. ⊥) (λ g n. n) (sgsn.with_context s r) refl refl (omega arith) i r r f refl refl (λ n h. h) (λ n a. a)
-      settles r (errand.Open o) q f = quiet s v ws ls P.reset_before (λ g. ⊥) (λ g n. n) (sgsn.with_context s (idle (expired o r))) refl refl (omega arith) i r (idle (expired o r)) f refl refl (λ n h. h) (λ n a. absurd (none-some n a))
-      settles r (errand.Ended w) q f = quiet s v ws ls P.reset_before (λ g. ⊥) (λ g n. n) (sgsn.with_context s (idle r)) refl refl (omega arith) i r (idle r) f refl refl (λ n h. h) (λ n a. absurd (none-some n a))
+      settles r errand.Idle q f = quiet s v ws ls P.reset_before (λ g. ⊥) (λ g n. n) (sgsn.with_context s r) refl refl (omega arith) i r r f refl (same_record r)
+      settles r (errand.Open o) q f = quiet s v ws ls P.reset_before (λ g. ⊥) (λ g n. n) (sgsn.with_context s (idle (expired o r))) refl refl (omega arith) i r (idle (expired o r)) f refl (record { mobile = refl; sure = λ n h. h; asking = λ a n h. absurd (none-some n h) })
+      settles r (errand.Ended w) q f = quiet s v ws ls P.reset_before (λ g. ⊥) (λ g n. n) (sgsn.with_context s (idle r)) refl refl (omega arith) i r (idle r) f refl (record { mobile = refl; sure = λ n h. h; asking = λ a n h. absurd (none-some n h) })
       settled_as_so : (o : Option Context) → sgsn.record_at s i ≡ o → SgsnMove s (settled_as s o) v ws ls (λ g. ⊥)
       settled_as_so None f = still s v ws ls P.reset_before (λ g. ⊥) (λ g n. n)
       settled_as_so (Some r) f = settles r r.errand refl f
@@ -74,4 +76,4 @@ module _ (s : sgsn.State) (v : vlr.State) (ws : List (List ℕ)) (ls : Stamps) (
 
   -- after a take for the SGSN
   pub taken_moves : (f : Frame) (ws1 : List (List ℕ)) (ls1 : Stamps) → Given s.own f ws ls ws1 ls1 → SgsnMove s (moved_by_frame s f) v ws1 ls1 (Sends s.own s.last (sends_by_frame s f) v.own)
-  taken_moves f ws1 ls1 G = ?
+  taken_moves f ws1 ls1 G = taken_by_frame s v ws ls F P f ws1 ls1 G (peer_from f s.peers) refl
