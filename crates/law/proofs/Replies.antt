@@ -55,7 +55,8 @@ use Rattle.law.specs.declared.call.Answer.{Answer}
 use Rattle.law.specs.Counts.{accepted, accepted_calls, asks, settles, is_of, ticks, owes_reply, ticks_since}
 use Rattle.law.specs.Laws.{Balanced, Owed, Timely, owing}
 use Rattle.law.specs.Steps.Came.{new, next}
-use Rattle.law.specs.Steps.{Events, Step, Came, SgsnDecides, SgsnCalls, AtVlr, AtNode, is_vlr, is_sgsn, called, settled}
+use Rattle.law.specs.Answers.{called, settled}
+use Rattle.law.specs.Steps.{Events, Step, Came, SgsnDecides, SgsnCalls, AtVlr, AtNode, is_vlr, is_sgsn}
 use Rattle.law.specs.Tables.{View, errand_in, errand_of}
 use Rattle.law.proofs.Owing.{left_of, Stays, stays_same, one, Kept, kept_same, kept_map, kept_stored, errand-stored, owing-stored, answered_stays, answered_whose, paged_errand, paged_whose, doubtful_errand, doubtful_whose, requested_owes, requested_left, requested_whose, detached_owes, detached_left, detached_whose, settled_owes, settled_whose, ticked_owed, ticked_time}
 

@@ -126,13 +126,15 @@ module _ {C : Type 0} (takes : C → NodeNumber → Option (List ℕ) → C → 
   Step (call.Deliver n) a x y = AtNode (is_sgsn n x) SgsnDelivers n VlrDelivers a x y
   Step (call.Tick n) a x y = AtNode (is_sgsn n x) (λ b z. SgsnCalls (sgsn_recover.worn_denial z.sgsn) (sgsn_recover.ticked z.sgsn) (sgsn_recover.tick_sends z.sgsn) b z) n (λ b v. VlrCalls (vlr_call.worn_denial v) (vlr_recover.ticked v) (vlr_recover.tick_sends v) b v) a x y
 
--- a new SGSN, the VLRs that it was made with, each made for it, and an empty carrier
+-- a new SGSN, the VLRs that it was made with, each made for it, in rising number, and an empty carrier
 pub record New {C : Type 0} (waiting : C → List (List ℕ)) (latest : C → Stamps) (x : View C) : Type 0 where
   pub number : SgsnNumber
+  pub given : List VlrNumber
   pub numbers : List VlrNumber
-  pub lawful : sgsn_made.lawful_numbers number numbers ≡ true
+  pub lawful : sgsn_made.lawful_numbers number given ≡ true
+  pub risen : sgsn_made.Risen given numbers
   pub sgsn : x.sgsn ≡ sgsn_made.new_state number numbers
-  pub vlrs : x.vlrs ≡ map (λ n. vlr_made.new_state n number) (sgsn_made.risen numbers)
+  pub vlrs : x.vlrs ≡ map (λ n. vlr_made.new_state n number) numbers
   pub empty : Empty (waiting x.carrier) (latest x.carrier)
 
 -- calls with their answers, the last one first
