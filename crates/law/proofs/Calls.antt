@@ -31,6 +31,7 @@ use Rattle.law.specs.Sound.{Pair}
 use Rattle.law.proofs.Premises.{Sends, SgsnMove}
 use Rattle.law.proofs.Carried.{Carries, unsent, sent, readable, took}
 use Rattle.law.proofs.Keeping.{Keeps, keeps_enrolled, keeps_attached, keeps_requested, keeps_detached, keeps_settled, keeps_lost, keeps_ticked, keeps_moved}
+use Rattle.law.proofs.Numbers.{lawful_apart, apart_reordered}
 use Rattle.law.proofs.SgsnMoves as sgsn_moves
 use Rattle.law.proofs.VlrMoves as vlr_moves
 use Rattle.law.proofs.Whole.{each_map, each_at, Sound, given, none_given, sgsn_goes, Goes, vlr_goes}
@@ -207,7 +208,7 @@ module _ {C : Type 0} (waiting : C → List (List ℕ)) (latest : C → Stamps) 
 
   -- a new site
   made : (x : View C) → New waiting latest x → StandsAt x
-  made x N = same_site _ x.sgsn _ x.vlrs x.carrier x.carrier N.sgsn N.vlrs refl (started N.number N.numbers (waiting x.carrier) (latest x.carrier) N.empty N.lawful)
+  made x N = same_site _ x.sgsn _ x.vlrs x.carrier x.carrier N.sgsn N.vlrs refl (started N.number N.numbers (waiting x.carrier) (latest x.carrier) N.empty (apart_reordered N.number.node N.given N.numbers N.risen.0 (lawful_apart N.number N.given N.lawful)))
 
   -- what should stand stands after any calls
   pub sound : {es : Events} {x : View C} → Came waiting latest takes puts es x → StandsAt x

@@ -3,6 +3,8 @@ pub mod Asks
 pub mod Calls
 pub mod Carried
 pub mod Keeping
+pub mod Lawful
+pub mod Numbers
 pub mod OneRecord
 pub mod Owing
 pub mod Pairs
