@@ -1,5 +1,7 @@
 -- Each move of an SGSN shows what it must.
-use Rattle.std.proofs.Common.{◌≡◌, ℕ, List, Some, None, Ok, Err, Option, Result, refl, arith}
+use Rattle.std.proofs.Common.{◌≡◌, ℕ, List, map, inl, Some, None, Ok, Err, Option, Result, refl, sym, ap, ◌∙◌, arith}
+use Rattle.std.proofs.lemmas.Bool.{true≢false}
+use Rattle.std.proofs.lemmas.List.{length-map}
 use Rattle.std.proofs.lemmas.Option.{none-some}
 use Rattle.imsi.specs.declared.Imsi.{Imsi}
 use Rattle.station.specs.declared.denial.Denial.{Denial}
@@ -8,8 +10,10 @@ use Rattle.context.specs.declared.context.Context.{Context}
 use Rattle.context.specs.declared.errand.Errand.{Errand}
 use Rattle.context.specs.declared.errand.Errand.TheVariants as errand
 use Rattle.context.specs.declared.errand.Verdict.{Verdict}
+use Rattle.station.specs.Ticks.{reset_to}
+use Rattle.context.specs.Answering.{is_above}
 use Rattle.context.specs.Codes.{class_in, request_kind_in, detach_kind_in}
-use Rattle.context.specs.Contexts.{new_context, attached_now, idle}
+use Rattle.context.specs.Contexts.{new_context, attached_now, idle, doubtful}
 use Rattle.context.specs.Ticking.{expired}
 use Rattle.frames.specs.declared.frame.Frame.{Frame}
 use Rattle.carrier.specs.Order.{Stamps}
@@ -23,9 +27,11 @@ use Rattle.sgsn.specs.Settling.{settling, after_settling, settled_as, settled_er
 use Rattle.sgsn.specs.Delivering.{moved_by_frame, sends_by_frame}
 use Rattle.sgsn.specs.Recovering.{lost, resets, ticked, tick_sends}
 use Rattle.vlr.specs.State as vlr
-use Rattle.law.specs.Sound.{Pair}
+use Rattle.law.specs.Sound.{Pair, Sure, asked, reset_in}
 use Rattle.law.proofs.Premises.{Fit, Given, Sends, SgsnMove}
-use Rattle.law.proofs.Quieter.{none_unsure, same_record}
+use Rattle.law.proofs.Losses.{lost_above, lost_before, lost_due, lost_none, lost_other}
+use Rattle.law.proofs.Quieter.{none_unsure, same_record, quieter_doubtful, quieter_map, found_quieter, unsure_map, found_unsure, doubtful_nowhere}
+use Rattle.law.proofs.Sendings.{among_stamps}
 use Rattle.law.proofs.OneRecord.{still, silent, quiet}
 use Rattle.law.proofs.Asks.{passed_on, requested_so, detached_so}
 use Rattle.law.proofs.Taken.{taken_by_frame}
@@ -69,7 +75,24 @@ module _ (s : sgsn.State) (v : vlr.State) (ws : List (List ℕ)) (ls : Stamps) (
       settled_so (Err w) = still s v ws ls P.reset_before (λ g. ⊥) (λ g n. n)
 
   pub lost_moves : SgsnMove s (lost s) v ws ls (Sends s.own s.last (resets s) v.own)
-  lost_moves = ?
+  lost_moves = record {
+    own = refl;
+    last = omega arith;
+    stamps = λ g n. let h = among_stamps s.own s.last (resets s) g n.0 in (h.0, omega (arith, h.1, length-map s.peers (λ p. reset_to s.own p.vlr.node)));
+    sure = λ m h. absurd (unsure m h);
+    harmless = λ m h. absurd (unsure m h);
+    asking = λ m r a. inl (asked_so m r a);
+    behind = λ m r a b g n. absurd (lost_none v.own s.own s.last s.peers g n.0 n.1 (lost_above v.own s.last r s.peers (P.asked_before m r (asked_so m r a)) b));
+    reset = λ r l a. ap (λ o. is_above (reset_in o) r) (lost_above v.own s.last r s.peers l a);
+    reset_before = λ x e. lost_before v.own s.last x s.peers e;
+    due = λ x d. inl (sym (lost_due v.own s.last s.peers) ∙ d);
+    acknowledged = λ g n a. absurd (true≢false (sym a ∙ lost_other s.own s.last s.peers g n.0));
+  }
+    where
+      unsure : (m : Imsi) → Sure (lost s) v.own m → ⊥
+      unsure m h = found_unsure v.own (map doubtful s.records) m (unsure_map v.own doubtful (doubtful_nowhere _) s.records) h
+      asked_so : (m : Imsi) (r : ℕ) → asked (lost s) v.own m ≡ Some r → asked s v.own m ≡ Some r
+      asked_so m r a = (found_quieter s.records (map doubtful s.records) m (quieter_map doubtful quieter_doubtful s.records)).asking v.own r a
 
   pub ticked_moves : SgsnMove s (ticked s) v ws ls (Sends s.own s.last (tick_sends s) v.own)
   ticked_moves = ?

@@ -1,0 +1,1 @@
+-- What one tick of an SGSN changes and sends.
