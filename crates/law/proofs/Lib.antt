@@ -8,6 +8,7 @@ pub mod OneRecord
 pub mod Pairs
 pub mod Premises
 pub mod Quieter
+pub mod RecordTicks
 pub mod Rows
 pub mod Sendings
 pub mod Served
