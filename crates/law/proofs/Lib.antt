@@ -4,12 +4,14 @@ pub mod Calls
 pub mod Carried
 pub mod Keeping
 pub mod Lawful
+pub mod Losses
 pub mod Numbers
 pub mod OneRecord
 pub mod Owing
 pub mod Pairs
 pub mod Premises
 pub mod Quieter
+pub mod RecordTicks
 pub mod Replies
 pub mod Rows
 pub mod Sendings
@@ -17,5 +19,6 @@ pub mod Served
 pub mod SgsnMoves
 pub mod Started
 pub mod Taken
+pub mod Ticks
 pub mod VlrMoves
 pub mod Whole

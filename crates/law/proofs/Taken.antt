@@ -43,6 +43,7 @@ use Rattle.law.specs.Tables.{mark_in, errand_in}
 use Rattle.law.specs.Sound.{Live, Pair, SureBy, Sure, accepts, harms, is_acknowledgement, asked, asked_in, update_stamp, answered_by as due_answers, peer_of, reset_in, reset_to, due_in, due_to}
 use Rattle.law.proofs.Premises.{Fit, Given, Granted, Heard, Sends, SgsnMove}
 use Rattle.law.proofs.Quieter.{Quieter, FoundQuieter, none_unsure, unsure_unsure, same_record, quieter_doubtful_at, quieter_map, found_quieter, unsure_map, found_unsure, doubtful_there}
+use Rattle.law.proofs.Sendings.{given_live}
 use Rattle.law.proofs.Served.{sure_served, asks_open, asking_served, moving_served}
 use Rattle.law.proofs.Rows.{its_source, sent_by, its_peer, row_kept, reset_due}
 use Rattle.law.proofs.OneRecord.{own_record, rows_stay, still, silent, quiet, told}
@@ -97,21 +98,6 @@ accepted_sure true w n e = (refl, cc)
 accepted_sure false w n e = absurd (unsure_unsure w n e)
 
 module _ (s : sgsn.State) (v : vlr.State) (ws : List (List ℕ)) (ls : Stamps) (F : Fit s) (P : Pair s v ws ls) (f : Frame) (ws1 : List (List ℕ)) (ls1 : Stamps) (G : Given s.own f ws ls ws1 ls1) where
-  -- the take left fewer frames that can be given
-  later : (a c : NodeNumber) → ls a c ≤ ls1 a c
-  later a c = ⊎_elim
-      (λ p. let e : ls1 a c ≡ f.stamp = (λ i. ls1 (p.0 i) (p.1 i)) ∙ G.now in let d : ls a c ≡ ls f.source s.own = (λ i. ls (p.0 i) (p.1 i)) in omega (arith, G.live.later))
-      (λ n. omega (arith, G.other a c (λ p q. n (p, q))))
-      (pair_or_not (same_node a f.source) (same_node c s.own) refl refl)
-    where
-      pair_or_not : (b d : Bool) → same_node a f.source ≡ b → same_node c s.own ≡ d → ((a ≡ f.source) × (c ≡ s.own)) ⊎ ((a ≡ f.source) × (c ≡ s.own) → ⊥)
-      pair_or_not true true p q = inl (same_node_lem a f.source p, same_node_lem c s.own q)
-      pair_or_not true false p q = inr (λ x. true≢false (sym (own_node s.own) ∙ ap (λ z. same_node z s.own) (sym x.1) ∙ q))
-      pair_or_not false d p q = inr (λ x. true≢false (sym (own_node f.source) ∙ ap (λ z. same_node z f.source) (sym x.0) ∙ p))
-
-  fewer : (a c : NodeNumber) (g : Frame) → Live ws1 ls1 a c g → Live ws ls a c g
-  fewer a c g L = record { lawful = L.lawful; waits = G.rest _ L.waits; from = L.from; to = L.to; later = omega (arith, later a c, L.later) }
-
   abbrev Quiet : Frame → Type 0
   Quiet = Sends s.own s.last [] v.own
 
@@ -139,10 +125,10 @@ module _ (s : sgsn.State) (v : vlr.State) (ws : List (List ℕ)) (ls : Stamps) (
         record {
           quiet = λ q. ⊎_elim (λ y. y) (λ z. before z.0 z.1 (P.heard q z.0 z.1)) sure;
           due = λ x d q. before x q (P.heard_due x d).0;
-          acknowledged = λ g k a q. before g.answers q (P.heard_acknowledged g (fewer s.own v.own g k) a).0;
+          acknowledged = λ g k a q. before g.answers q (P.heard_acknowledged g (given_live s.own f ws ls ws1 ls1 G s.own v.own g k) a).0;
           clear = λ g k. ⊎_elim
-              (λ t. P.pending (whose r) o.stamp asks known g (fewer s.own v.own g k) (ltb-true o.stamp g.stamp t))
-              (λ t. let h : g.stamp ≤ o.stamp = grind (arith, nat_tests) in absurd (omega (arith, (P.known (whose r) f L accepted_it).0, stamp, h, (fewer s.own v.own g k).later)))
+              (λ t. P.pending (whose r) o.stamp asks known g (given_live s.own f ws ls ws1 ls1 G s.own v.own g k) (ltb-true o.stamp g.stamp t))
+              (λ t. let h : g.stamp ≤ o.stamp = grind (arith, nat_tests) in absurd (omega (arith, (P.known (whose r) f L accepted_it).0, stamp, h, (given_live s.own f ws ls ws1 ls1 G s.own v.own g k).later)))
               (cases_Bool (nat_lt o.stamp g.stamp));
         }
 

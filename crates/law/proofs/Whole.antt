@@ -81,6 +81,10 @@ same_numbers [] v w later e = (λ i. record { node = e i } ∷ numbers_of later)
 same_numbers (u ∷ us) v w later e = ap (λ ns. record { node = u.own } ∷ ns) (same_numbers us v w later e)
 
 module _ (s : sgsn.State) (vs : List vlr.State) (ws : List (List ℕ)) (ls : Stamps) (S : Sound s vs ws ls) where
+  -- no two of the SGSN's VLRs have one number
+  pub vlrs_differ : all_different (sgsn.vlrs_of s) ≡ true
+  vlrs_differ = ap all_different S.numbers ∙ (and_parts _ (all_different (numbers_of vs)) S.differ).1
+
   -- fewer frames can be given
   fewer : (ws1 : List (List ℕ)) (ls1 : Stamps) → Leaves ws ws1 → ((a b : NodeNumber) (g : Frame) → Live ws1 ls1 a b g → Live ws ls a b g) → ((a b : NodeNumber) → ls a b ≤ ls1 a b) → Sound s vs ws1 ls1
   fewer ws1 ls1 leaves live later =
@@ -138,7 +142,7 @@ module _ (s : sgsn.State) (earlier : List vlr.State) (v : vlr.State) (later : Li
         spelt = A.spelt S.spelt;
         numbers = S.numbers ∙ sym numbers;
         differ = ap (apart s.own) numbers ∙ S.differ;
-        each = one_changed (λ u. Pair s u ws ls) (λ u. Pair s u ws2 ls2) earlier v w later (and_parts _ (all_different (numbers_of (earlier ++ v ∷ later))) S.differ).1
+        each = one_changed (λ u. Pair s u ws ls) (λ u. Pair s u ws2 ls2) earlier v w later (ap all_different (sym S.numbers) ∙ vlrs_differ s (earlier ++ v ∷ later) ws ls S)
             (λ P. ⊎_elim
             (λ M. vlr_moved s v ws ws2 ls ls2 P w (New s.own) M down up (A.still s.own v.own) (A.still v.own s.own))
             (λ M. vlr_restarted s v ws ws2 ls ls2 P w (New s.own) M down up (A.still s.own v.own) (A.still v.own s.own))
