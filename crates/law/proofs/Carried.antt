@@ -1,5 +1,5 @@
 -- What a carrier does with octets, said of frames.
-use Rattle.std.proofs.Common.{◌≡◌, ℕ, ◌+◌, ◌<◌, ◌⊎◌, inl, inr, true, List, [], ◌∷◌, map, Some, None, Ok, Err, Option, Result, sym, refl, ap, ◌∙◌, subst, ⊎_elim, arith}
+use Rattle.std.proofs.Common.{◌≡◌, ℕ, ◌+◌, ◌<◌, ◌⊎◌, inl, inr, true, List, [], ◌∷◌, map, Some, Ok, Err, Option, sym, refl, ap, ◌∙◌, subst, ⊎_elim, arith}
 use Rattle.std.specs.List.{list_all}
 use Rattle.std.proofs.lemmas.Bool.{and_parts}
 use Rattle.elements.specs.declared.fault.Fault.{Fault}
@@ -16,7 +16,7 @@ use Rattle.carrier.specs.Chains.{PutsAll}
 use Rattle.carrier.specs.Order.{Stamps, Still, Moves}
 use Rattle.carrier.specs.Waiting.{In, Adds, Gives, Leaves}
 use Rattle.station.specs.declared.sending.Outgoing.{Outgoing}
-use Rattle.station.specs.Sends.{frame_of, frames_of, Sent}
+use Rattle.station.specs.Sends.{frames_of, Sent}
 use Rattle.law.specs.Sound.{Live}
 use Rattle.law.proofs.Premises.{Among, Given, Sends}
 
@@ -54,11 +54,13 @@ front f x p =
     let h = header_is f x p in
     record { source = ap (λ (t : Header). t.source) h; destination = ap (λ (t : Header). t.destination) h; stamp = ap (λ (t : Header). t.stamp) h }
 
+-- each of these is lawful
 all_among : (fs : List Frame) (g : Frame) → list_all lawful_frame fs ≡ true → Among g fs → lawful_frame g ≡ true
 all_among [] g a m = absurd m
 all_among (f ∷ fs) g a (inl e) = ap lawful_frame e ∙ (and_parts (lawful_frame f) (list_all lawful_frame fs) a).0
 all_among (f ∷ fs) g a (inr m) = all_among fs g (and_parts (lawful_frame f) (list_all lawful_frame fs) a).1 m
 
+-- an end's frames are from it
 sender : (own : NodeNumber) (last : ℕ) (os : List Outgoing) (g : Frame) → Among g (frames_of own last os) → g.source ≡ own
 sender own last [] g m = absurd m
 sender own last (o ∷ os) g (inl e) = ap (λ t. t.source) e
@@ -78,6 +80,7 @@ record Put (fs : List Frame) (ws : List (List ℕ)) (ls : Stamps) (ws2 : List (L
   still : Still ls ls2
 
 module _ {C : Type 0} (waiting : C → List (List ℕ)) (latest : C → Stamps) (takes : C → NodeNumber → Option (List ℕ) → C → Type 0) (puts : C → List ℕ → C → Type 0) (K : Carries waiting latest takes puts) where
+  -- frames put one after another
   put_all : (fs : List Frame) (c d : C) → PutsAll puts c (map frame_octets fs) d → Put fs (waiting c) (latest c) (waiting d) (latest d)
   put_all [] c d p = record { waits = λ x i. inl (subst (λ e. In x (waiting e)) (sym p) i); still = λ a b. ap (λ e. latest e a b) (sym p) }
   put_all (f ∷ fs) c d p =

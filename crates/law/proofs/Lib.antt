@@ -9,6 +9,7 @@ pub mod Pairs
 pub mod Premises
 pub mod Quieter
 pub mod RecordTicks
+pub mod Rising
 pub mod Rows
 pub mod Sendings
 pub mod Served

@@ -1,5 +1,5 @@
 -- What should stand at a whole site stands at a new one.
-use Rattle.std.proofs.Common.{◌≡◌, ℕ, Bool, true, not, cond, ◌&&◌, nat_lt, List, [], ◌∷◌, map, find, Some, None, Option, sym, refl, ap, ◌∙◌, subst, arith}
+use Rattle.std.proofs.Common.{◌≡◌, ℕ, Bool, true, not, nat_lt, List, [], ◌∷◌, map, find, Some, None, sym, refl, ap, ◌∙◌, subst, arith}
 use Rattle.std.proofs.lemmas.Bool.{and_parts, and_from, cond_both}
 use Rattle.std.proofs.lemmas.Bool.Decides.{nat_tests}
 use Rattle.std.proofs.lemmas.Option.{none-some}
@@ -15,16 +15,16 @@ use Rattle.station.specs.declared.mark.Mark.{Mark}
 use Rattle.station.specs.declared.mark.Mark.TheVariants as mark
 use Rattle.sgsn.specs.declared.peer.Peer.{Peer}
 use Rattle.sgsn.specs.Making.{apart, lawful_numbers, placed, risen, new_peer, new_state}
-use Rattle.sgsn.specs.State as sgsn
 use Rattle.vlr.specs.State as vlr
 use Rattle.vlr.specs.Making as vlr_made
-use Rattle.law.specs.Sound.{Live, Pair, reset_in, due_in, reset_to, due_to}
+use Rattle.law.specs.Sound.{Live, Pair, reset_in, due_in, due_to}
 use Rattle.law.proofs.Whole.{Each, numbers_of, Sound}
 
 -- to be marked None is not to be sure
 pub not_sure : {N : Type 0} (n : N) → ◌≡◌ {A = Mark N} mark.None (mark.Confirmed n) → ⊥
 not_sure n e = let z : ◌≡◌ {A = ℕ} 0 1 = cc in omega arith
 
+-- different either way round
 same_back : (a b : NodeNumber) → not (same_node a b) ≡ true → not (same_node b a) ≡ true
 same_back a b e = grind (arith, nat_tests)
 
@@ -37,8 +37,8 @@ apart_placed (w ∷ ws) n v d a b =
     let r = and_parts (not (same_node w.node v.node)) _ b in
     let t = and_parts (apart v.node ws) (apart w.node ws) r.1 in
     cond_both (nat_lt v.node.number w.node.number) (v ∷ w ∷ ws) (w ∷ placed v ws) (λ l. apart n l ≡ true)
-        (λ e. and_from _ _ d (and_from _ _ a b))
-        (λ e. and_from _ _ p.0 (and_from _ _ (apart_placed ws n v d q.0 t.0) (apart_placed ws w.node v (same_back w.node v.node r.0) q.1 t.0)))
+    (λ e. and_from _ _ d (and_from _ _ a b))
+    (λ e. and_from _ _ p.0 (and_from _ _ (apart_placed ws n v d q.0 t.0) (apart_placed ws w.node v (same_back w.node v.node r.0) q.1 t.0)))
 
 apart_risen : (vs : List VlrNumber) (n : NodeNumber) → apart n vs ≡ true → apart n (risen vs) ≡ true
 apart_risen [] n a = refl
@@ -47,6 +47,7 @@ apart_risen (v ∷ vs) n a =
     let q = and_parts (apart n vs) (apart v.node vs) p.1 in
     apart_placed (risen vs) n v p.0 (apart_risen vs n q.0) (apart_risen vs v.node q.1)
 
+-- the numbers are those that the site was made with
 peers_made : (ks : List VlrNumber) → map (λ p. p.vlr) (map new_peer ks) ≡ ks
 peers_made [] = refl
 peers_made (k ∷ ks) = ap (λ l. k ∷ l) (peers_made ks)
@@ -66,6 +67,7 @@ module _ (number : SgsnNumber) where
   numbers_made (k ∷ ks) = ap (λ l. k ∷ l) (numbers_made ks)
 
   module _ (numbers : List VlrNumber) (ws : List (List ℕ)) (ls : Stamps) (E : Empty ws ls) where
+    -- no frame waits
     nothing : (a b : NodeNumber) (f : Frame) → Live ws ls a b f → ⊥
     nothing a b f l = subst (In (frame_octets f)) E.0 l.waits
 
@@ -102,7 +104,7 @@ module _ (number : SgsnNumber) where
         let own = and_parts (lawful_node number.node) _ many.1 in
         let their = and_parts _ (apart number.node numbers) own.1 in
         record {
-          fit = refl;
+          fit = record { fits = refl; rise = refl };
           spelt = λ x i. absurd (subst (In x) E.0 i);
           numbers = peers_made (risen numbers) ∙ sym (numbers_made (risen numbers));
           differ = ap (apart number.node) (numbers_made (risen numbers)) ∙ apart_risen numbers number.node their.1;

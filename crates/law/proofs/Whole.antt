@@ -1,5 +1,5 @@
 -- What stands at a whole site, and that a take and each move of an end keep it.
-use Rattle.std.proofs.Common.{◌≡◌, ℕ, ◌<◌, ◌≤◌, ◌⊎◌, inl, inr, Bool, true, not, ◌&&◌, List, [], ◌∷◌, ◌++◌, map, sym, refl, ap, ◌∙◌, subst, ⊎_elim, arith}
+use Rattle.std.proofs.Common.{◌≡◌, ℕ, ◌<◌, ◌≤◌, ◌⊎◌, inl, inr, true, not, List, [], ◌∷◌, ◌++◌, map, sym, ap, ◌∙◌, subst, ⊎_elim, arith}
 use Rattle.std.proofs.lemmas.Bool.{true≢false, not-true, and_parts}
 use Rattle.elements.specs.declared.node.NodeNumber.{NodeNumber}
 use Rattle.elements.specs.declared.node.VlrNumber.{VlrNumber}
@@ -34,6 +34,7 @@ pub record Sound (s : sgsn.State) (vs : List vlr.State) (ws : List (List ℕ)) (
   pub differ : apart s.own (numbers_of vs) ≡ true
   pub each : Each (λ v. Pair s v ws ls) vs
 
+-- what follows for one follows for each
 pub each_map : {Q R : vlr.State → Type 0} (vs : List vlr.State) → ((v : vlr.State) → Q v → R v) → Each Q vs → Each R vs
 each_map [] f e = tt
 each_map (v ∷ vs) f e = (f v e.0, each_map vs f e.1)
@@ -76,11 +77,13 @@ one_changed Q R (u ∷ us) v w later n a f g e =
     let other = each_at (Other u.own) us v later (none_has u.own (us ++ v ∷ later) q.1) in
     (g u (λ t. other (sym t)) e.0, one_changed Q R us v w later n q.0 f g e.1)
 
+-- a change of one that keeps its number keeps all numbers
 same_numbers : (earlier : List vlr.State) (v w : vlr.State) (later : List vlr.State) → w.own ≡ v.own → numbers_of (earlier ++ w ∷ later) ≡ numbers_of (earlier ++ v ∷ later)
 same_numbers [] v w later e = (λ i. record { node = e i } ∷ numbers_of later)
 same_numbers (u ∷ us) v w later e = ap (λ ns. record { node = u.own } ∷ ns) (same_numbers us v w later e)
 
 module _ (s : sgsn.State) (vs : List vlr.State) (ws : List (List ℕ)) (ls : Stamps) (S : Sound s vs ws ls) where
+  -- fewer frames can be given
   fewer : (ws1 : List (List ℕ)) (ls1 : Stamps) → Leaves ws ws1 → ((a b : NodeNumber) (g : Frame) → Live ws1 ls1 a b g → Live ws ls a b g) → ((a b : NodeNumber) → ls a b ≤ ls1 a b) → Sound s vs ws1 ls1
   fewer ws1 ls1 leaves live later =
       record {
