@@ -203,7 +203,7 @@ module _ {C : Type 0} (waiting : C → List (List ℕ)) (latest : C → Stamps) 
   step (call.Deliver n) a x y S D = at_node (is_sgsn takes puts n x) (SgsnDelivers takes puts) n (VlrDelivers takes puts) a x y (sgsn_delivers x y S a) (vlr_delivers a) S D
   step (call.Tick n) a x y S D =
       at_node (is_sgsn takes puts n x) _ n _ a x y
-      (sgsn_calls x y S a _ _ _ (λ d. keeps_ticked x.sgsn S.fit) (λ d v P. sgsn_moves.ticked_moves x.sgsn v _ _ S.fit P ? (vlrs_differ x.sgsn x.vlrs _ _ S)))
+      (sgsn_calls x y S a _ _ _ (λ d. keeps_ticked x.sgsn S.fit) (λ d v P. sgsn_moves.ticked_moves x.sgsn v _ _ S.fit P (vlrs_differ x.sgsn x.vlrs _ _ S)))
       (vlr_calls vlr_call.worn_denial vlr_recover.ticked vlr_recover.tick_sends (λ s v ws ls P. vlr_ticks (repeat_now v.row) s v ws ls P refl) a) S D
 
   -- a new site

@@ -13,6 +13,7 @@ pub mod Premises
 pub mod Quieter
 pub mod RecordTicks
 pub mod Replies
+pub mod Rising
 pub mod Rows
 pub mod Sendings
 pub mod Served

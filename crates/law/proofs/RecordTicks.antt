@@ -1,7 +1,7 @@
 -- What one tick of an SGSN's records changes and sends.
-use Rattle.std.proofs.Common.{◌≡◌, ℕ, ◌+◌, ◌-◌, ◌<◌, Bool, true, false, cond, ◌&&◌, ◌==◌, ltb, nat_le, nat_lt, List, [], ◌∷◌, length, inl, inr, Some, None, Option, refl, sym, ap, ◌∙◌, subst, ⊎_elim, arith}
+use Rattle.std.proofs.Common.{◌≡◌, ℕ, ◌+◌, ◌-◌, ◌<◌, Bool, true, false, cond, ◌&&◌, ◌==◌, not, ltb, nat_le, List, [], ◌∷◌, map, length, inl, inr, Some, None, Option, refl, sym, ap, ◌∙◌, subst, ⊎_elim, arith}
 use Rattle.std.specs.List.{list_all}
-use Rattle.std.proofs.lemmas.Bool.{true≢false, cond-true, cond-false, cond_both, and_parts, ltb-true, le-ltb}
+use Rattle.std.proofs.lemmas.Bool.{true≢false, cond-true, cond-false, cond_both, and_parts, not-true}
 use Rattle.std.proofs.lemmas.Bool.Decides.{nat_tests}
 use Rattle.std.proofs.lemmas.Option.{none-some}
 use Rattle.imsi.specs.declared.Imsi.{Imsi}
@@ -13,7 +13,7 @@ use Rattle.messages.specs.declared.message.Message.TheVariants.{GprsDetachIndica
 use Rattle.frames.specs.declared.frame.Frame.{Frame}
 use Rattle.directory.specs.Order.{rank_of, same}
 use Rattle.directory.specs.Lookup.{at}
-use Rattle.directory.proofs.Lookups.{same_true, same_eq, same_ne}
+use Rattle.directory.proofs.Lookups.{same_true, same_eq}
 use Rattle.station.specs.declared.mark.Mark.TheVariants as mark
 use Rattle.station.specs.Sends.{frames_of}
 use Rattle.context.specs.declared.context.Context.{Context}
@@ -26,14 +26,17 @@ use Rattle.context.specs.Contexts.{whose}
 use Rattle.context.specs.Errands.{is_open}
 use Rattle.context.specs.Ticking.{with_errand, told_again, one_less, expired, run_out, ticked_errand, context_ticked, detach_again, errand_sends, context_sends}
 use Rattle.sgsn.specs.Fitting.{fits_in}
-use Rattle.sgsn.specs.Recovering.{records_ticked, records_sends}
+use Rattle.sgsn.specs.Peers.{doubted_by_all}
+use Rattle.sgsn.specs.Recovering.{records_ticked, records_sends, ticked}
+use Rattle.sgsn.specs.State.{State}
 use Rattle.law.specs.Tables.{mark_in, errand_in}
 use Rattle.law.specs.Sound.{harms, is_acknowledgement, asked_in, update_stamp}
-use Rattle.law.proofs.Premises.{Among, rising}
+use Rattle.law.proofs.Premises.{Among, passes, rising}
 use Rattle.law.proofs.Asks.{asks_not}
-use Rattle.law.proofs.Quieter.{Quieter, AllQuieter, same_record}
+use Rattle.law.proofs.Quieter.{Quieter, AllQuieter, same_record, quieter_twice}
 use Rattle.law.proofs.Sendings.{among_either}
 use Rattle.law.proofs.Served.{sure_served}
+use Rattle.law.proofs.Ticks.{quieter_doubted}
 
 -- the mark of a record stays, and a tick asks nothing more
 quieter_errand : (r : Context) (e : Errand) → ((a : NodeNumber) (n : ℕ) → asked_in a e ≡ Some n → asked_in a r.errand ≡ Some n) → Quieter r (with_errand e r)
@@ -64,9 +67,14 @@ quieter_errand_ticked (errand.Open o) k r q =
     (λ e. quieter_errand r (errand.Open (one_less o)) (λ a n h. ap (asked_in a) q ∙ ap (λ x. cond (same_node o.vlr.node a) x None) (sym (same_asked o o.awaited)) ∙ h))
 quieter_errand_ticked (errand.Ended v) k r q = same_record r
 
-pub quieter_ticked : (last : ℕ) (rs : List Context) → AllQuieter rs (records_ticked last rs)
+quieter_ticked : (last : ℕ) (rs : List Context) → AllQuieter rs (records_ticked last rs)
 quieter_ticked last [] = tt
 quieter_ticked last (r ∷ rs) = (quieter_errand_ticked r.errand last r refl, quieter_ticked (last + length (context_sends r)) rs)
+
+pub quieter_all_ticked : (s : State) → AllQuieter s.records (ticked s).records
+quieter_all_ticked s =
+    let rs = records_ticked s.last s.records in
+    quieter_twice s.records rs (doubted_by_all s.peers rs) (quieter_ticked s.last s.records) (quieter_doubted s.peers rs)
 
 -- a frame that a record sends tells its open detach again
 record Again (r : Context) (g : Frame) : Type 0 where
@@ -121,33 +129,34 @@ again_free vs a r g f A =
 harmed_mobile : (m : Imsi) (r : Context) (g : Frame) → Again r g → harms m g.message ≡ true → m ≡ whose r
 harmed_mobile m r g A h = same_true m (whose r) (sym (ap (harms m) A.message) ∙ h)
 
--- a frame of records above a rank is about a mobile above it
-above_rank : (own : NodeNumber) (k last : ℕ) (rs : List Context) (m : Imsi) (g : Frame) → list_all (λ x. nat_lt k (rank_of (whose x))) rs ≡ true
-    → Among g (frames_of own last (records_sends rs)) → harms m g.message ≡ true → k < rank_of m
-above_rank own k last [] m g up z h = absurd z
-above_rank own k last (r ∷ rs) m g up z h =
-    let parts = and_parts (nat_lt k (rank_of (whose r))) (list_all (λ x. nat_lt k (rank_of (whose x))) rs) up in
+-- a frame of records is about a mobile that passes what each of them passes
+passes_told : (own : NodeNumber) (n : Imsi) (last : ℕ) (rs : List Context) (m : Imsi) (g : Frame) → list_all (λ i. passes i n) (map whose rs) ≡ true
+    → Among g (frames_of own last (records_sends rs)) → harms m g.message ≡ true → passes m n ≡ true
+passes_told own n last [] m g up z h = absurd z
+passes_told own n last (r ∷ rs) m g up z h =
+    let parts = and_parts (passes (whose r) n) (list_all (λ i. passes i n) (map whose rs)) up in
     ⊎_elim
-    (λ y. omega (arith, ltb-true k (rank_of (whose r)) parts.0, ap rank_of (harmed_mobile m r g (told_so own r g last y) h)))
-    (λ y. above_rank own k (last + length (context_sends r)) rs m g parts.1 y h)
+    (λ y. ap (λ i. passes i n) (harmed_mobile m r g (told_so own r g last y) h) ∙ parts.0)
+    (λ y. passes_told own n (last + length (context_sends r)) rs m g parts.1 y h)
     (among_either own last (context_sends r) (records_sends rs) g z)
 
 -- who is harmed by such a frame is free
 pub records_free : (own : NodeNumber) (vs : List VlrNumber) (a : NodeNumber) (last : ℕ) (rs : List Context) (m : Imsi) (g : Frame)
-    → rising rs ≡ true → list_all (fits_in vs) rs ≡ true → Among g (frames_of own last (records_sends rs)) → harms m g.message ≡ true → Free a (at whose rs m)
+    → rising (map whose rs) ≡ true → list_all (fits_in vs) rs ≡ true → Among g (frames_of own last (records_sends rs)) → harms m g.message ≡ true → Free a (at whose rs m)
 records_free own vs a last [] m g up f z h = absurd z
 records_free own vs a last (r ∷ rs) m g up f z h =
-    let ups = and_parts (list_all (λ x. nat_lt (rank_of (whose r)) (rank_of (whose x))) rs) (rising rs) up in
+    let ups = and_parts (list_all (λ i. passes i (whose r)) (map whose rs)) (rising (map whose rs)) up in
     let fits = and_parts (fits_in vs r) (list_all (fits_in vs) rs) f in
     ⊎_elim
     (λ y. let A = told_so own r g last y in subst (Free a) (sym (first m r (at whose rs m) (harmed_mobile m r g A h))) (again_free vs a r g fits.0 A))
-    (λ y. subst (Free a) (sym (passed_by m r (at whose rs m) (above_rank own (rank_of (whose r)) (last + length (context_sends r)) rs m g ups.0 y h)))
+    (λ y. subst (Free a) (sym (passed_by m r (at whose rs m) (passes_told own (whose r) (last + length (context_sends r)) rs m g ups.0 y h)))
     (records_free own vs a (last + length (context_sends r)) rs m g ups.1 fits.1 y h))
     (among_either own last (context_sends r) (records_sends rs) g z)
   where
     first : (i : Imsi) (x : Context) (o : Option Context) → i ≡ whose x → cond (same i (whose x)) (Some x) (cond (ltb (rank_of i) (rank_of (whose x))) None o) ≡ Some x
     first i x o e = cond-true (same i (whose x)) (Some x) (cond (ltb (rank_of i) (rank_of (whose x))) None o) (same_eq i (whose x) e)
-    passed_by : (i : Imsi) (x : Context) (o : Option Context) → rank_of (whose x) < rank_of i → cond (same i (whose x)) (Some x) (cond (ltb (rank_of i) (rank_of (whose x))) None o) ≡ o
-    passed_by i x o l =
-        cond-false (same i (whose x)) (Some x) (cond (ltb (rank_of i) (rank_of (whose x))) None o) (same_ne i (whose x) (λ e. omega (arith, ap rank_of e, l)))
-        ∙ cond-false (ltb (rank_of i) (rank_of (whose x))) None o (le-ltb _ _ (omega (arith, l)))
+    passed_by : (i : Imsi) (x : Context) (o : Option Context) → passes i (whose x) ≡ true → cond (same i (whose x)) (Some x) (cond (ltb (rank_of i) (rank_of (whose x))) None o) ≡ o
+    passed_by i x o p =
+        let parts = and_parts (not (same i (whose x))) (not (ltb (rank_of i) (rank_of (whose x)))) p in
+        cond-false (same i (whose x)) (Some x) (cond (ltb (rank_of i) (rank_of (whose x))) None o) (not-true (same i (whose x)) parts.0)
+        ∙ cond-false (ltb (rank_of i) (rank_of (whose x))) None o (not-true (ltb (rank_of i) (rank_of (whose x))) parts.1)

@@ -31,15 +31,15 @@ use Rattle.sgsn.specs.Delivering.{moved_by_frame, sends_by_frame}
 use Rattle.sgsn.specs.Recovering.{lost, resets, records_ticked, records_sends, last_between, ticked, tick_sends}
 use Rattle.vlr.specs.State as vlr
 use Rattle.law.specs.Sound.{Pair, Sure, harms, is_acknowledgement, asked, peer_of, reset_in, due_in}
-use Rattle.law.proofs.Premises.{Among, Fit, Given, rising, Sends, SgsnMove}
+use Rattle.law.proofs.Premises.{Among, Fit, Given, Sends, SgsnMove}
 use Rattle.law.proofs.Losses.{lost_above, lost_before, lost_due, lost_none, lost_other}
-use Rattle.law.proofs.Quieter.{none_unsure, same_record, quieter_doubtful, quieter_map, quieter_twice, FoundQuieter, found_quieter, unsure_map, found_unsure, doubtful_nowhere}
+use Rattle.law.proofs.Quieter.{none_unsure, same_record, quieter_doubtful, quieter_map, FoundQuieter, found_quieter, unsure_map, found_unsure, doubtful_nowhere}
 use Rattle.law.proofs.Sendings.{among_stamps, among_either}
 use Rattle.law.proofs.OneRecord.{still, silent, quiet}
 use Rattle.law.proofs.Asks.{passed_on, requested_so, detached_so}
-use Rattle.law.proofs.RecordTicks.{quieter_ticked, records_other, Free, records_free}
+use Rattle.law.proofs.RecordTicks.{quieter_all_ticked, records_other, Free, records_free}
 use Rattle.law.proofs.Taken.{taken_by_frame}
-use Rattle.law.proofs.Ticks.{ticked_above, ticked_repeat, ticked_before, ticked_due, quieter_doubted, doubted_there, Says, rows_say}
+use Rattle.law.proofs.Ticks.{ticked_above, ticked_repeat, ticked_before, ticked_due, doubted_there, Says, rows_say}
 
 module _ (s : sgsn.State) (v : vlr.State) (ws : List (List ℕ)) (ls : Stamps) (F : Fit s) (P : Pair s v ws ls) where
   pub enrolled_moves : (i : Imsi) (code : ℕ) → enrol.enrol_denial s i code ≡ None → SgsnMove s (enrol.enrolled s i code) v ws ls (λ g. ⊥)
@@ -99,8 +99,9 @@ module _ (s : sgsn.State) (v : vlr.State) (ws : List (List ℕ)) (ls : Stamps) (
       asked_so : (m : Imsi) (r : ℕ) → asked (lost s) v.own m ≡ Some r → asked s v.own m ≡ Some r
       asked_so m r a = (found_quieter s.records (map doubtful s.records) m (quieter_map doubtful quieter_doubtful s.records)).asking v.own r a
 
-  pub ticked_moves : rising s.records ≡ true → all_different (sgsn.vlrs_of s) ≡ true → SgsnMove s (ticked s) v ws ls (Sends s.own s.last (tick_sends s) v.own)
-  ticked_moves up differ = record {
+  -- no two of its VLRs have one number
+  pub ticked_moves : all_different (sgsn.vlrs_of s) ≡ true → SgsnMove s (ticked s) v ws ls (Sends s.own s.last (tick_sends s) v.own)
+  ticked_moves differ = record {
     own = refl;
     last = omega arith;
     stamps = λ g n. among_stamps s.own s.last (tick_sends s) g n.0;
@@ -136,18 +137,17 @@ module _ (s : sgsn.State) (v : vlr.State) (ws : List (List ℕ)) (ls : Stamps) (
   }
     where
       seen : (m : Imsi) → FoundQuieter (sgsn.record_at s m) (sgsn.record_at (ticked s) m)
-      seen m = found_quieter s.records (ticked s).records m
-          (quieter_twice s.records (records_ticked s.last s.records) (ticked s).records (quieter_ticked s.last s.records) (quieter_doubted s.peers (records_ticked s.last s.records)))
+      seen m = found_quieter s.records (ticked s).records m (quieter_all_ticked s)
       old : (r : ℕ) → r ≤ s.last → r ≤ last_between s
       old r l = omega (arith, l)
       either : (g : Frame) → Among g (frames_of s.own s.last (tick_sends s)) → Among g (frames_of s.own s.last (records_sends s.records)) ⊎ Among g (frames_of s.own (last_between s) (peers_sends s.own s.peers))
       either g n = among_either s.own s.last (records_sends s.records) (peers_sends s.own s.peers) g n
       free : (m : Imsi) (g : Frame) → Among g (frames_of s.own s.last (records_sends s.records)) → harms m g.message ≡ true → Free v.own (sgsn.record_at s m)
-      free m g n h = records_free s.own (sgsn.vlrs_of s) v.own s.last s.records m g up F n h
+      free m g n h = records_free s.own (sgsn.vlrs_of s) v.own s.last s.records m g F.rise F.fits n h
       said : (g : Frame) → Among g (frames_of s.own (last_between s) (peers_sends s.own s.peers)) → g.destination ≡ v.own → (p : Peer) × (peer_of v.own s.peers ≡ Some p) × Says s.own p.row g
       said g n to = rows_say s.own v.own (last_between s) s.peers g differ n to
       spared : (m : Imsi) (g : Frame) → (harms m g.message ≡ true → ⊥) → harms m g.message ≡ false
-      spared m g safe = ⊎_elim (λ t. absurd (safe t)) (λ f. f) (cases_Bool (harms m g.message))
+      spared m g never = ⊎_elim (λ t. absurd (never t)) (λ f. f) (cases_Bool (harms m g.message))
 
   -- after a take for the SGSN
   pub taken_moves : (f : Frame) (ws1 : List (List ℕ)) (ls1 : Stamps) → Given s.own f ws ls ws1 ls1 → SgsnMove s (moved_by_frame s f) v ws1 ls1 (Sends s.own s.last (sends_by_frame s f) v.own)

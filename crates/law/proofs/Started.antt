@@ -78,7 +78,7 @@ module _ (number : SgsnNumber) where
     pub started : apart number.node numbers ≡ true → Sound (new_state number numbers) (map (λ n. vlr_made.new_state n number) numbers) ws ls
     started differ =
         record {
-          fit = refl;
+          fit = record { fits = refl; rise = refl };
           spelt = λ x i. absurd (subst (In x) E.0 i);
           numbers = peers_made numbers ∙ sym (numbers_made numbers);
           differ = ap (apart number.node) (numbers_made numbers) ∙ differ;

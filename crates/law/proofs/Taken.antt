@@ -205,7 +205,7 @@ module _ (s : sgsn.State) (v : vlr.State) (ws : List (List ℕ)) (ls : Stamps) (
     page_moves i (Some r) e = pages r.attached (moves_to p.vlr r) (node_in r.mark) refl refl
       where
         fit : fits_in (sgsn.vlrs_of s) r ≡ true
-        fit = fits_at (sgsn.vlrs_of s) s.records i r F e
+        fit = fits_at (sgsn.vlrs_of s) s.records i r F.fits e
         pages : (a b : Bool) (o : Option VlrNumber) → r.attached ≡ a → moves_to p.vlr r ≡ b
             → SgsnMove s (sgsn.with_sent s (cond b (now_at p.vlr r) r) (cond a (cond b (status_to o r) []) (failure_to p.vlr f.stamp r))) v ws1 ls1 (Sends s.own s.last (cond a (cond b (status_to o r) []) (failure_to p.vlr f.stamp r)) v.own)
         pages true true None h k =
