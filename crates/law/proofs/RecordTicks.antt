@@ -122,9 +122,10 @@ abbrev pub Free : NodeNumber → Option Context → Type 0
 Free a o = (mark_in o ≡ mark.Confirmed (record { node = a }) → ⊥) × ((n : ℕ) → asked_in a (errand_in o) ≡ Some n → ⊥)
 
 again_free : (vs : List VlrNumber) (a : NodeNumber) (r : Context) (g : Frame) → fits_in vs r ≡ true → Again r g → Free a (Some r)
-again_free vs a r g f A =
-    (λ h. true≢false (sym (ap is_open A.waits) ∙ (sure_served vs r (record { node = a }) f h).1),
-    λ n h. A.asks a n (ap (asked_in a) (sym A.waits) ∙ h))
+again_free vs a r g f A = (
+  λ h. true≢false (sym (ap is_open A.waits) ∙ (sure_served vs r (record { node = a }) f h).1),
+  λ n h. A.asks a n (ap (asked_in a) (sym A.waits) ∙ h),
+)
 
 harmed_mobile : (m : Imsi) (r : Context) (g : Frame) → Again r g → harms m g.message ≡ true → m ≡ whose r
 harmed_mobile m r g A h = same_true m (whose r) (sym (ap (harms m) A.message) ∙ h)
@@ -155,6 +156,7 @@ records_free own vs a last (r ∷ rs) m g up f z h =
   where
     first : (i : Imsi) (x : Context) (o : Option Context) → i ≡ whose x → cond (same i (whose x)) (Some x) (cond (ltb (rank_of i) (rank_of (whose x))) None o) ≡ Some x
     first i x o e = cond-true (same i (whose x)) (Some x) (cond (ltb (rank_of i) (rank_of (whose x))) None o) (same_eq i (whose x) e)
+
     passed_by : (i : Imsi) (x : Context) (o : Option Context) → passes i (whose x) ≡ true → cond (same i (whose x)) (Some x) (cond (ltb (rank_of i) (rank_of (whose x))) None o) ≡ o
     passed_by i x o p =
         let parts = and_parts (not (same i (whose x))) (not (ltb (rank_of i) (rank_of (whose x)))) p in

@@ -59,6 +59,7 @@ asking_served vs r a n f h = by_errand r.errand h (and_parts (sound_mark r.mark 
     by_awaited o (GprsDetach t x) false k e = absurd (none-some n k)
     by_awaited o (ImsiDetach x) true k e = absurd (none-some n k)
     by_awaited o (ImsiDetach x) false k e = absurd (none-some n k)
+
     by_errand : (e : Errand) → asked_in a e ≡ Some n → sound_errand e r ≡ true → r.attached ≡ true
     by_errand errand.Idle k t = absurd (none-some n k)
     by_errand (errand.Open o) k t = by_awaited o o.awaited (same_node o.vlr.node a) k t

@@ -117,8 +117,8 @@ module _ (s : sgsn.State) (v : vlr.State) (ws : List (List ℕ)) (ls : Stamps) (
         let reset : reset_to s v.own ≡ p.row.reset = ap reset_in (subst (λ n. peer_of n s.peers ≡ Some p) from (its_peer f s.peers p its)) in
         let known : is_above (reset_to s v.own) o.stamp ≡ true = ap (λ x. is_above x o.stamp) reset ∙ above in
         let asks : asked s v.own (whose r) ≡ Some o.stamp =
-          ap (λ x. asked_in v.own (errand_in x)) (own_record s i r e) ∙ ap (asked_in v.own) A.waits
-          ∙ cond-true (same_node o.vlr.node v.own) (update_stamp o o.awaited) None (ap (λ n. same_node n v.own) there ∙ own_node v.own) ∙ ap (update_stamp o) A.update in
+        ap (λ x. asked_in v.own (errand_in x)) (own_record s i r e) ∙ ap (asked_in v.own) A.waits
+        ∙ cond-true (same_node o.vlr.node v.own) (update_stamp o o.awaited) None (ap (λ n. same_node n v.own) there ∙ own_node v.own) ∙ ap (update_stamp o) A.update in
         let accepted_it : accepts (whose r) f.message ≡ true = ap (accepts (whose r)) fm ∙ same_eq (whose r) i (at-whose whose s.records i r e) in
         let sure : SureBy v (whose r) ⊎ ((x : ℕ) × (v.row.reset ≡ Some x) × (f.stamp < x)) = P.granted (whose r) o.stamp asks known f L accepted_it (sym stamp) in
         let before : (x : ℕ) → v.row.reset ≡ Some x → x ≤ ls v.own s.own → SureBy v (whose r) = λ x q h. ⊎_elim (λ y. y) (λ z. absurd (omega (arith, same_Some x z.0 (sym q ∙ z.1), z.2, h, L.later))) sure in
@@ -173,8 +173,10 @@ module _ (s : sgsn.State) (v : vlr.State) (ws : List (List ℕ)) (ls : Stamps) (
       where
         seen : (m : Imsi) → FoundQuieter (sgsn.record_at s m) (sgsn.record_at (reset_by s f p) m)
         seen m = found_quieter s.records (map (doubtful_at p.vlr) s.records) m (quieter_map (doubtful_at p.vlr) (quieter_doubtful_at p.vlr) s.records)
+
         same_reset : reset_to (reset_by s f p) v.own ≡ reset_to s v.own
         same_reset = row_kept f (λ r. reset_taken r f.stamp) reset_in (λ q. refl) v.own s.peers
+
         heard : (x : ℕ) → x ≡ f.stamp → v.own ≡ f.source → Heard s (reset_by s f p) v ws1 ls1 Quiet x
         heard x e from = record {
           given = omega (arith, ap (λ a. ls1 a s.own) from ∙ G.now, e);
@@ -206,6 +208,7 @@ module _ (s : sgsn.State) (v : vlr.State) (ws : List (List ℕ)) (ls : Stamps) (
       where
         fit : fits_in (sgsn.vlrs_of s) r ≡ true
         fit = fits_at (sgsn.vlrs_of s) s.records i r F.fits e
+
         pages : (a b : Bool) (o : Option VlrNumber) → r.attached ≡ a → moves_to p.vlr r ≡ b
             → SgsnMove s (sgsn.with_sent s (cond b (now_at p.vlr r) r) (cond a (cond b (status_to o r) []) (failure_to p.vlr f.stamp r))) v ws1 ls1 (Sends s.own s.last (cond a (cond b (status_to o r) []) (failure_to p.vlr f.stamp r)) v.own)
         pages true true None h k =
