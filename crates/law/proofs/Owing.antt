@@ -31,7 +31,6 @@ use Rattle.sgsn.specs.Recovering.{records_ticked}
 use Rattle.sgsn.specs.Recovering as recovering
 use Rattle.sgsn.specs.Settling.{settled_errand}
 use Rattle.sgsn.specs.State as sgsn
-use Rattle.law.specs.Counts.{ticks}
 use Rattle.law.specs.Laws.{owing}
 use Rattle.law.specs.Tables.{errand_in, errand_of}
 

@@ -1,8 +1,7 @@
 -- What one tick of an SGSN's records changes and sends.
-use Rattle.std.proofs.Common.{◌≡◌, ℕ, ◌+◌, ◌-◌, ◌<◌, Bool, true, false, cond, ◌&&◌, ◌==◌, not, ltb, nat_le, List, [], ◌∷◌, map, length, inl, inr, Some, None, Option, refl, sym, ap, ◌∙◌, subst, ⊎_elim, arith}
+use Rattle.std.proofs.Common.{◌≡◌, ℕ, ◌+◌, Bool, true, false, cond, ◌==◌, not, ltb, nat_le, List, [], ◌∷◌, map, length, inl, inr, Some, None, Option, refl, sym, ap, ◌∙◌, subst, ⊎_elim}
 use Rattle.std.specs.List.{list_all}
 use Rattle.std.proofs.lemmas.Bool.{true≢false, cond-true, cond-false, cond_both, and_parts, not-true}
-use Rattle.std.proofs.lemmas.Bool.Decides.{nat_tests}
 use Rattle.std.proofs.lemmas.Option.{none-some}
 use Rattle.imsi.specs.declared.Imsi.{Imsi}
 use Rattle.elements.specs.declared.code.GprsDetachType.{GprsDetachType}
@@ -24,7 +23,7 @@ use Rattle.context.specs.declared.errand.Errand.TheVariants as errand
 use Rattle.context.specs.declared.errand.Open.{Open}
 use Rattle.context.specs.Contexts.{whose}
 use Rattle.context.specs.Errands.{is_open}
-use Rattle.context.specs.Ticking.{with_errand, told_again, one_less, expired, run_out, ticked_errand, context_ticked, detach_again, errand_sends, context_sends}
+use Rattle.context.specs.Ticking.{with_errand, told_again, one_less, expired, run_out, ticked_errand, detach_again, errand_sends, context_sends}
 use Rattle.sgsn.specs.Fitting.{fits_in}
 use Rattle.sgsn.specs.Peers.{doubted_by_all}
 use Rattle.sgsn.specs.Recovering.{records_ticked, records_sends, ticked}

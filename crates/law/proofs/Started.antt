@@ -1,12 +1,11 @@
 -- What should stand at a whole site stands at a new one.
-use Rattle.std.proofs.Common.{◌≡◌, ℕ, Bool, true, not, nat_lt, List, [], ◌∷◌, map, find, Some, None, sym, refl, ap, ◌∙◌, subst, arith}
-use Rattle.std.proofs.lemmas.Bool.{and_parts, and_from, cond_both}
-use Rattle.std.proofs.lemmas.Bool.Decides.{nat_tests}
+use Rattle.std.proofs.Common.{◌≡◌, ℕ, Bool, true, List, [], ◌∷◌, map, find, Some, None, sym, refl, ap, ◌∙◌, subst, arith}
+use Rattle.std.proofs.lemmas.Bool.{cond_both}
 use Rattle.std.proofs.lemmas.Option.{none-some}
 use Rattle.elements.specs.declared.node.NodeNumber.{NodeNumber}
 use Rattle.elements.specs.declared.node.SgsnNumber.{SgsnNumber}
 use Rattle.elements.specs.declared.node.VlrNumber.{VlrNumber}
-use Rattle.elements.specs.Nodes.{lawful_node, same_node}
+use Rattle.elements.specs.Nodes.{same_node}
 use Rattle.frames.specs.declared.frame.Frame.{Frame}
 use Rattle.frames.specs.Format.{frame_octets}
 use Rattle.carrier.specs.Order.{Stamps, Empty}
@@ -14,8 +13,7 @@ use Rattle.carrier.specs.Waiting.{In}
 use Rattle.station.specs.declared.mark.Mark.{Mark}
 use Rattle.station.specs.declared.mark.Mark.TheVariants as mark
 use Rattle.sgsn.specs.declared.peer.Peer.{Peer}
-use Rattle.sgsn.specs.Making.{lawful_numbers, new_peer, new_state}
-use Rattle.vlr.specs.State as vlr
+use Rattle.sgsn.specs.Making.{new_peer, new_state}
 use Rattle.vlr.specs.Making as vlr_made
 use Rattle.law.specs.Sound.{Live, Pair, reset_in, due_in, due_to}
 use Rattle.law.proofs.Numbers.{apart}

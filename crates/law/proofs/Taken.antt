@@ -1,5 +1,5 @@
 -- A frame that an SGSN took.
-use Rattle.std.proofs.Common.{◌≡◌, ℕ, ◌+◌, ◌<◌, ◌≤◌, ◌⊎◌, inl, inr, Bool, true, false, cond, ◌&&◌, ◌==◌, nat_lt, is_some, List, [], ◌∷◌, map, Some, None, Option, refl, sym, ap, ◌∙◌, subst, ⊎_elim, arith}
+use Rattle.std.proofs.Common.{◌≡◌, ℕ, ◌<◌, ◌≤◌, ◌⊎◌, inl, inr, Bool, true, false, cond, ◌&&◌, ◌==◌, nat_lt, is_some, List, [], map, Some, None, Option, refl, sym, ap, ◌∙◌, subst, ⊎_elim, arith}
 use Rattle.std.proofs.lemmas.Bool.{true≢false, cases_Bool, cond-true, cond_both, and_parts, ltb-true, eqb-true}
 use Rattle.std.proofs.lemmas.Bool.Decides.{nat_tests}
 use Rattle.std.proofs.lemmas.Option.{none-some, same_Some}
@@ -7,7 +7,6 @@ use Rattle.imsi.specs.declared.Imsi.{Imsi}
 use Rattle.elements.specs.declared.area.LocationArea.{LocationArea}
 use Rattle.elements.specs.declared.code.Cause.TheVariants as cause
 use Rattle.elements.specs.declared.code.RejectCause.{RejectCause}
-use Rattle.elements.specs.declared.node.NodeNumber.{NodeNumber}
 use Rattle.elements.specs.declared.node.VlrNumber.{VlrNumber}
 use Rattle.elements.specs.Nodes.{same_node}
 use Rattle.messages.specs.declared.message.Message.{Message}
@@ -15,7 +14,6 @@ use Rattle.messages.specs.declared.message.Message.TheVariants.{Paging, PagingFa
 use Rattle.frames.specs.declared.frame.Frame.{Frame}
 use Rattle.carrier.specs.Nodes.{same_node_lem, own_node}
 use Rattle.carrier.specs.Order.{Stamps}
-use Rattle.directory.specs.Order.{same}
 use Rattle.directory.proofs.Lookups.{at-whose, same_eq}
 use Rattle.station.specs.declared.mark.Mark.TheVariants as mark
 use Rattle.station.specs.Marks.{node_in}
@@ -30,17 +28,16 @@ use Rattle.context.specs.declared.errand.Awaited.{Awaited}
 use Rattle.context.specs.declared.errand.Awaited.TheVariants.{Update, GprsDetach, ImsiDetach}
 use Rattle.context.specs.Answering.{is_above, is_answer, let_go, accepted, on_accept, on_reject, on_gprs_acknowledge, on_imsi_acknowledge, matched, answered, answered_errand}
 use Rattle.context.specs.Contexts.{whose, doubtful_at}
-use Rattle.context.specs.Errands.{is_open}
 use Rattle.context.specs.Paging.{moves_to, now_at, status_to, failure_to}
 use Rattle.sgsn.specs.declared.peer.Peer.{Peer}
 use Rattle.sgsn.specs.Fitting.{fits_in}
 use Rattle.sgsn.proofs.Fits.{fits_at}
-use Rattle.sgsn.specs.Peers.{peer_from, row_changed, sent_it}
+use Rattle.sgsn.specs.Peers.{peer_from}
 use Rattle.sgsn.specs.State as sgsn
 use Rattle.sgsn.specs.Delivering.{acknowledged_by, answered_by, reset_by, paged_by, sends_for_page, taken, taken_by, sends, sends_by}
 use Rattle.vlr.specs.State as vlr
-use Rattle.law.specs.Tables.{mark_in, errand_in}
-use Rattle.law.specs.Sound.{Live, Pair, SureBy, Sure, accepts, harms, is_acknowledgement, asked, asked_in, update_stamp, answered_by as due_answers, peer_of, reset_in, reset_to, due_in, due_to}
+use Rattle.law.specs.Tables.{errand_in}
+use Rattle.law.specs.Sound.{Live, Pair, SureBy, accepts, asked, asked_in, update_stamp, answered_by as due_answers, peer_of, reset_in, reset_to, due_in}
 use Rattle.law.proofs.Premises.{Fit, Given, Granted, Heard, Sends, SgsnMove}
 use Rattle.law.proofs.Quieter.{Quieter, FoundQuieter, none_unsure, unsure_unsure, same_record, quieter_doubtful_at, quieter_map, found_quieter, unsure_map, found_unsure, doubtful_there}
 use Rattle.law.proofs.Sendings.{given_live}

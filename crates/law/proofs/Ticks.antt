@@ -1,5 +1,5 @@
 -- What one tick of what an SGSN keeps of its VLRs changes and sends.
-use Rattle.std.proofs.Common.{◌≡◌, ℕ, ◌+◌, ◌-◌, ◌<◌, ◌≤◌, ◌⊎◌, inl, inr, Bool, true, false, cond, ◌&&◌, not, nat_le, nat_lt, List, [], ◌∷◌, ◌++◌, map, length, Some, None, Option, refl, sym, ap, ◌∙◌, subst, ⊎_elim, arith}
+use Rattle.std.proofs.Common.{◌≡◌, ℕ, ◌+◌, ◌-◌, ◌<◌, ◌≤◌, ◌⊎◌, inl, inr, Bool, true, false, cond, not, nat_le, List, [], ◌∷◌, map, length, Some, None, Option, refl, sym, ap, ◌∙◌, subst, ⊎_elim, arith}
 use Rattle.std.specs.List.{list_any}
 use Rattle.std.proofs.lemmas.Bool.{true≢false, cases_Bool, cond-true, cond-false, cond_both, and_parts, or_parts, not-true, ltb-true}
 use Rattle.std.proofs.lemmas.List.{length-append}
@@ -11,7 +11,7 @@ use Rattle.frames.specs.declared.frame.Frame.{Frame}
 use Rattle.carrier.specs.Nodes.{same_node_lem, own_node}
 use Rattle.station.specs.declared.row.Due.{Due}
 use Rattle.station.specs.declared.row.Row.{Row}
-use Rattle.station.specs.Rows.{due_now, due_ticked, expired, later, repeat_now, repeated, reset_ticked}
+use Rattle.station.specs.Rows.{due_ticked, expired, later, repeat_now, repeated, reset_ticked}
 use Rattle.station.specs.Sends.{frames_of}
 use Rattle.station.specs.Ticks.{acknowledging, due_sends, repeat_sends, row_sends, row_ticked, reset_to}
 use Rattle.context.specs.declared.context.Context.{Context}
