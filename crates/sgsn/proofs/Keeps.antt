@@ -1,5 +1,5 @@
 -- A mobile's record stays its own, and has its place.
-use Rattle.std.proofs.Common.{◌≡◌, ℕ, true, is_some, Some, Option, sym, refl, ap, ◌∙◌, arith}
+use Rattle.std.proofs.Common.{◌≡◌, ℕ, true, is_some, Some, Option, ap, ◌∙◌, arith}
 use Rattle.std.proofs.lemmas.Bool.Decides.{nat_tests}
 use Rattle.imsi.specs.declared.Imsi.{Imsi}
 use Rattle.directory.proofs.Lookups.{at-whose}

@@ -1,8 +1,13 @@
 // An SGSN: what it keeps of each mobile and of each of its VLRs, its calls, and what a frame from a VLR does.
 #![tactic(auto)]
 
+pub mod detaching;
 pub mod enrolling;
 pub mod keeping;
 pub mod making;
 pub mod peer;
+pub mod reading;
+pub mod reply;
+pub mod requesting;
+pub mod settling;
 pub mod sgsn;
