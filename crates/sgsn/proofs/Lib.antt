@@ -1,6 +1,9 @@
+pub mod Delivers
 pub mod Fits
 pub mod Keeps
 pub mod Makes
 pub mod Moves
+pub mod Places
 pub mod Replied
 pub mod Requests
+pub mod Senders

@@ -1,11 +1,14 @@
 // An SGSN: what it keeps of each mobile and of each of its VLRs, its calls, and what a frame from a VLR does.
 #![tactic(auto)]
 
+pub mod delivering;
 pub mod detaching;
 pub mod enrolling;
 pub mod keeping;
+mod keeping;
 pub mod making;
 pub mod peer;
+mod peers;
 pub mod reading;
 pub mod reply;
 pub mod requesting;
