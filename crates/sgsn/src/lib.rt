@@ -4,12 +4,12 @@
 pub mod delivering;
 pub mod detaching;
 pub mod enrolling;
-pub mod keeping;
 mod keeping;
 pub mod making;
 pub mod peer;
 mod peers;
 pub mod reading;
+pub mod recovering;
 pub mod reply;
 pub mod requesting;
 pub mod settling;
