@@ -1,11 +1,14 @@
 // What a request makes of a mobile's record.
 ghost use Rattle.std.specs.Prelude.{◌≡◌};
-ghost use Rattle.context.specs.Requesting.{needs_no_frame, requested};
+ghost use Rattle.station.specs.Sends.{outgoing_in};
+ghost use Rattle.context.specs.Requesting.{needs_no_frame, requested, request_sends};
 
 use crate::context::Context;
 use crate::errand::{Awaited, Errand, Open, Verdict};
 use crate::kind::{Request, RequestKind};
+use messages::message::Message;
 use station::mark::Mark;
+use station::sending::Outgoing;
 
 // So many ticks a VLR has to answer a location update.
 const UPDATE_TICKS: u8 = 10;
@@ -43,5 +46,26 @@ impl Context {
             errand: Errand::Open(pending),
             ..self
         }
+    }
+
+    // What goes to the VLR that is to serve the mobile, which has voice service.
+    pub fn request_sends(self, kind: RequestKind, request: Request) -> Option<Outgoing>
+        ensures { outgoing_in result ≡ request_sends kind request self }
+    {
+        if self.needs_no_frame(kind, request) {
+            return None;
+        }
+        let message = Message::LuRequest {
+            imsi: self.imsi,
+            update: kind.update_type(),
+            old_area: request.old_area,
+            new_area: request.new_area,
+            class: self.class.voice()?,
+        };
+        Some(Outgoing {
+            to: request.vlr.node,
+            answers: 0,
+            message,
+        })
     }
 }

@@ -1,5 +1,5 @@
 -- Where what should stands at a whole site, the marks agree.
-use Rattle.std.proofs.Common.{◌≡◌, ℕ, ◌⊎◌, inl, inr, true, ◌||◌, List, [], ◌∷◌, is_some, Some, None, Option, sym, refl, ap, ◌∙◌, subst, ⊎_elim}
+use Rattle.std.proofs.Common.{◌≡◌, ℕ, inl, inr, true, ◌||◌, List, [], ◌∷◌, is_some, Some, None, Option, sym, refl, ap, ◌∙◌, subst, ⊎_elim}
 use Rattle.std.proofs.lemmas.Bool.{true≢false, and_parts, cases_Bool, cond-true, cond-false}
 use Rattle.std.proofs.lemmas.Option.{none-some, same_Some}
 use Rattle.imsi.specs.declared.Imsi.{Imsi}
@@ -48,7 +48,7 @@ module _ (s : sgsn.State) (vs : List vlr.State) (ws : List (List ℕ)) (ls : Sta
   its_vlr : (o : Option Context) → sgsn.record_at s m ≡ o → mark_in o ≡ mark.Confirmed n → is_one_of (sgsn.vlrs_of s) n ≡ true
   its_vlr None e c = absurd (not_sure n c)
   its_vlr (Some r) e c =
-      let fit = fits_at (sgsn.vlrs_of s) s.records m r S.fit e in
+      let fit = fits_at (sgsn.vlrs_of s) s.records m r S.fit.fits e in
       let behind = and_parts (lawful_imsi r.imsi.digits r.imsi.value) _ fit in
       let names = and_parts (sound r) _ behind.1 in
       let marked_one = and_parts (if_named (sgsn.vlrs_of s) (node_in r.mark)) _ names.1 in

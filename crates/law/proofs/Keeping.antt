@@ -21,7 +21,7 @@ use Rattle.context.specs.declared.kind.Request.{Request}
 use Rattle.context.specs.declared.kind.RequestKind.{RequestKind}
 use Rattle.context.specs.declared.kind.DetachKind.{DetachKind}
 use Rattle.context.specs.Codes.{class_in, request_kind_in, detach_kind_in, attaches}
-use Rattle.context.specs.Contexts.{has_voice, new_context, attached_now, doubtful, doubtful_at}
+use Rattle.context.specs.Contexts.{whose, has_voice, new_context, attached_now, doubtful, doubtful_at}
 use Rattle.context.specs.Errands.{owes}
 use Rattle.context.specs.Requesting as context_request
 use Rattle.context.specs.Detaching as context_detach
@@ -38,16 +38,20 @@ use Rattle.sgsn.specs.Settling.{settled_errand, settled_as, after_settling}
 use Rattle.sgsn.specs.Delivering.{paged_by, answered_by, taken_by, taken, moved_by_frame}
 use Rattle.sgsn.specs.Recovering.{lost, records_ticked, ticked, last_between}
 use Rattle.sgsn.proofs.Fits.{fits_at, fits_stored, fits_map, fits_new, fits_attached, fits_doubtful, fits_doubtful_at, fits_settled, fits_requested, fits_detached, fits_answered, fits_paged, fits_all_ticked, fits_doubted, vlrs_changed, vlrs_lost, vlrs_ticked}
-use Rattle.law.proofs.Premises.{Fit}
+use Rattle.law.proofs.Premises.{Fit, rising}
+use Rattle.law.proofs.Quieter.{quieter_map, quieter_doubtful, quieter_doubtful_at}
+use Rattle.law.proofs.RecordTicks.{quieter_all_ticked}
+use Rattle.law.proofs.Rising.{rising_stored, rising_quieter}
 
 pub record Keeps (s t : State) : Type 0 where
   pub own : t.own ≡ s.own
   pub vlrs : vlrs_of t ≡ vlrs_of s
-  pub fit : list_all (fits_in (vlrs_of s)) t.records ≡ true
+  pub fits : list_all (fits_in (vlrs_of s)) t.records ≡ true
+  pub rise : rising (map whose t.records) ≡ true
 
 -- so its records are still such as it may keep
 pub still_fit : (s t : State) → Keeps s t → Fit t
-still_fit s t K = subst (λ vs. list_all (fits_in vs) t.records ≡ true) (sym K.vlrs) K.fit
+still_fit s t K = record { fits = subst (λ vs. list_all (fits_in vs) t.records ≡ true) (sym K.vlrs) K.fits; rise = K.rise }
 
 -- a question was answered by yes, and those behind it too
 granted : (b : Bool) (d : Denial) (others : Option Denial) → unless b d others ≡ None → (b ≡ true) × (others ≡ None)
@@ -64,16 +68,16 @@ one_of_them f (q ∷ ps) p e = ⊎_elim
 
 module _ (s : State) (F : Fit s) where
   unchanged : Keeps s s
-  unchanged = record { own = refl; vlrs = refl; fit = F }
+  unchanged = record { own = refl; vlrs = refl; fits = F.fits; rise = F.rise }
 
   stores : (r : Context) → fits_in (vlrs_of s) r ≡ true → Keeps s (with_context s r)
-  stores r e = record { own = refl; vlrs = refl; fit = fits_stored (vlrs_of s) r s.records F e }
+  stores r e = record { own = refl; vlrs = refl; fits = fits_stored (vlrs_of s) r s.records F.fits e; rise = rising_stored r s.records F.rise }
 
   sends : (r : Context) (os : List Outgoing) → fits_in (vlrs_of s) r ≡ true → Keeps s (with_sent s r os)
-  sends r os e = record { own = refl; vlrs = refl; fit = fits_stored (vlrs_of s) r s.records F e }
+  sends r os e = record { own = refl; vlrs = refl; fits = fits_stored (vlrs_of s) r s.records F.fits e; rise = rising_stored r s.records F.rise }
 
   held : (i : Imsi) (r : Context) → record_at s i ≡ Some r → fits_in (vlrs_of s) r ≡ true
-  held i r e = fits_at (vlrs_of s) s.records i r F e
+  held i r e = fits_at (vlrs_of s) s.records i r F.fits e
 
   keeps_enrolled_as : (i : Imsi) (c : Option ServiceClass) → lawful_imsi i.digits i.value ≡ true → Keeps s (enrolled_as s i c)
   keeps_enrolled_as i None l = unchanged
@@ -126,14 +130,15 @@ module _ (s : State) (F : Fit s) where
   keeps_settled i (Err d) = unchanged
 
   pub keeps_lost : Keeps s (lost s)
-  keeps_lost = record { own = refl; vlrs = vlrs_lost s.last s.peers; fit = fits_map (vlrs_of s) doubtful s.records (fits_doubtful (vlrs_of s)) F }
+  keeps_lost = record { own = refl; vlrs = vlrs_lost s.last s.peers; fits = fits_map (vlrs_of s) doubtful s.records (fits_doubtful (vlrs_of s)) F.fits; rise = rising_quieter s.records (map doubtful s.records) (quieter_map doubtful quieter_doubtful s.records) F.rise }
 
   pub keeps_ticked : Keeps s (ticked s)
   keeps_ticked =
       record {
         own = refl;
         vlrs = vlrs_ticked s.own (last_between s) s.peers;
-        fit = fits_doubted (vlrs_of s) s.peers (records_ticked s.last s.records) (fits_all_ticked (vlrs_of s) s.last s.records F);
+        fits = fits_doubted (vlrs_of s) s.peers (records_ticked s.last s.records) (fits_all_ticked (vlrs_of s) s.last s.records F.fits);
+        rise = rising_quieter s.records (ticked s).records (quieter_all_ticked s) F.rise;
       }
 
   module _ (f : Frame) (p : Peer) where
@@ -146,8 +151,8 @@ module _ (s : State) (F : Fit s) where
     keeps_answered_by i (Some r) e = stores (answered p.vlr f.answers p.row.reset f.message r) (fits_answered (vlrs_of s) p.vlr f.answers p.row.reset f.message r (held i r e))
 
     keeps_taken_by : (m : Message) → is_one_of (vlrs_of s) p.vlr ≡ true → Keeps s (taken_by s f p m)
-    keeps_taken_by (Reset e) its = record { own = refl; vlrs = vlrs_changed f (λ r. reset_taken r f.stamp) s.peers; fit = fits_map (vlrs_of s) (doubtful_at p.vlr) s.records (fits_doubtful_at (vlrs_of s) p.vlr) F }
-    keeps_taken_by (ResetAcknowledge e) its = record { own = refl; vlrs = vlrs_changed f (λ r. acknowledged r f.answers) s.peers; fit = F }
+    keeps_taken_by (Reset e) its = record { own = refl; vlrs = vlrs_changed f (λ r. reset_taken r f.stamp) s.peers; fits = fits_map (vlrs_of s) (doubtful_at p.vlr) s.records (fits_doubtful_at (vlrs_of s) p.vlr) F.fits; rise = rising_quieter s.records (map (doubtful_at p.vlr) s.records) (quieter_map (doubtful_at p.vlr) (quieter_doubtful_at p.vlr) s.records) F.rise }
+    keeps_taken_by (ResetAcknowledge e) its = record { own = refl; vlrs = vlrs_changed f (λ r. acknowledged r f.answers) s.peers; fits = F.fits; rise = F.rise }
     keeps_taken_by (Paging i t c) its = keeps_paged_by i (record_at s i) its refl
     keeps_taken_by (PagingFailure i c) its = keeps_answered_by i (record_at s i) refl
     keeps_taken_by (MobileStatus i c) its = keeps_answered_by i (record_at s i) refl

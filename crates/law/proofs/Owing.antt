@@ -27,17 +27,19 @@ use Rattle.context.specs.Requesting as request
 use Rattle.context.specs.Ticking.{repeats_of, ticked_errand, context_ticked, context_sends}
 use Rattle.sgsn.specs.declared.peer.Peer.{Peer}
 use Rattle.sgsn.specs.Peers.{doubted_by, doubted_by_all}
-use Rattle.sgsn.specs.Recovering.{records_ticked}
-use Rattle.sgsn.specs.Recovering as recovering
+use Rattle.sgsn.specs.Recovering.{records_ticked, ticked}
 use Rattle.sgsn.specs.Settling.{settled_errand}
 use Rattle.sgsn.specs.State as sgsn
-use Rattle.law.specs.Counts.{ticks}
 use Rattle.law.specs.Laws.{owing}
 use Rattle.law.specs.Tables.{errand_in, errand_of}
 
 -- how many ticks an open request or detach can still take
 abbrev pub left_of : Open → ℕ
 left_of o = o.ticks + 8 * repeats_of o.awaited
+
+-- after so many ticks it is still open, and ends before the 32nd
+abbrev pub InTime : ℕ → Open → Type 0
+InTime t o = (t + left_of o ≤ 32) × (1 ≤ o.ticks)
 
 -- What a record owes stays, and what is open then was so before.
 abbrev pub Stays : Errand → Errand → Type 0
@@ -55,6 +57,7 @@ answered_stays v n reset k r = (answered_owes v n reset k r, answered_open v n r
 pub answered_whose : (v : VlrNumber) (n : ℕ) (reset : Option ℕ) (k : Message) (r : Context) → whose (answered v n reset k r) ≡ whose r
 answered_whose v n reset k r = grind (arith, nat_tests)
 
+-- neither a page nor a doubt changes what is owed
 pub paged_errand : (v : VlrNumber) (r : Context) → (page.paged v r).errand ≡ r.errand
 paged_errand v r = grind (arith, nat_tests)
 
@@ -67,10 +70,11 @@ doubtful_errand v r = grind (arith, nat_tests)
 pub doubtful_whose : (v : VlrNumber) (r : Context) → whose (doubtful_at v r) ≡ whose r
 doubtful_whose v r = grind (arith, nat_tests)
 
+-- a request and a detach owe a reply, and are in time
 pub requested_owes : (k : RequestKind) (q : Request) (n : ℕ) (r : Context) → owes (request.requested k q n r).errand ≡ true
 requested_owes k q n r = grind (arith, nat_tests)
 
-pub requested_left : (k : RequestKind) (q : Request) (n : ℕ) (r : Context) (o : Open) → (request.requested k q n r).errand ≡ errand.Open o → (left_of o ≤ 32) × (1 ≤ o.ticks)
+pub requested_left : (k : RequestKind) (q : Request) (n : ℕ) (r : Context) (o : Open) → (request.requested k q n r).errand ≡ errand.Open o → InTime 0 o
 requested_left k q n r o e = grind (arith, nat_tests)
 
 pub requested_whose : (k : RequestKind) (q : Request) (n : ℕ) (r : Context) → whose (request.requested k q n r) ≡ whose r
@@ -79,25 +83,27 @@ requested_whose k q n r = grind (arith, nat_tests)
 pub detached_owes : (k : DetachKind) (n : ℕ) (r : Context) → owes (detach.detached k n r).errand ≡ true
 detached_owes k n r = grind (arith, nat_tests)
 
-pub detached_left : (k : DetachKind) (n : ℕ) (r : Context) (o : Open) → (detach.detached k n r).errand ≡ errand.Open o → (left_of o ≤ 32) × (1 ≤ o.ticks)
+pub detached_left : (k : DetachKind) (n : ℕ) (r : Context) (o : Open) → (detach.detached k n r).errand ≡ errand.Open o → InTime 0 o
 detached_left k n r o e = grind (arith, nat_tests)
 
 pub detached_whose : (k : DetachKind) (n : ℕ) (r : Context) → whose (detach.detached k n r) ≡ whose r
 detached_whose k n r = grind (arith, nat_tests)
 
+-- nothing is owed once it is settled
 pub settled_owes : (r : Context) → owes (settled_errand r.errand r).errand ≡ false
 settled_owes r = grind (arith, nat_tests)
 
 pub settled_whose : (r : Context) → whose (settled_errand r.errand r) ≡ whose r
 settled_whose r = grind (arith, nat_tests)
 
+-- a tick leaves what is owed, and what is in time
 ticked_whose : (n : ℕ) (r : Context) → whose (context_ticked n r) ≡ whose r
 ticked_whose n r = grind (arith, nat_tests)
 
 ticked_owes : (n : ℕ) (r : Context) → owes (context_ticked n r).errand ≡ owes r.errand
 ticked_owes n r = grind (arith, nat_tests)
 
-ticked_from : (n t : ℕ) (r : Context) (e : Errand) → r.errand ≡ e → ((o : Open) → e ≡ errand.Open o → (t + left_of o ≤ 32) × (1 ≤ o.ticks)) → (o : Open) → (ticked_errand e n r).errand ≡ errand.Open o → (1 + t + left_of o ≤ 32) × (1 ≤ o.ticks)
+ticked_from : (n t : ℕ) (r : Context) (e : Errand) → r.errand ≡ e → ((o : Open) → e ≡ errand.Open o → InTime t o) → (o : Open) → (ticked_errand e n r).errand ≡ errand.Open o → InTime (1 + t) o
 ticked_from n t r errand.Idle is left o e = absurd (cc)
 ticked_from n t r (errand.Open p) is left o e = let l = left p refl in grind (arith, nat_tests)
 ticked_from n t r (errand.Ended v) is left o e = absurd (cc)
@@ -158,23 +164,26 @@ errand_cond : (b : Bool) (r : Context) (o : Option Context) → errand_in (cond 
 errand_cond true r o = refl
 errand_cond false r o = refl
 
-pub errand-stored : (i : Imsi) (r : Context) (xs : List Context) (m : Imsi) → whose r ≡ i → errand_in (at whose (stored whose r xs) m) ≡ cond (same m i) r.errand (errand_in (at whose xs m))
-errand-stored i r xs m own =
-    ap errand_in (at-stored whose r xs m)
-    ∙ (λ t. errand_in (cond (same m (own t)) (Some r) (at whose xs m)))
-    ∙ errand_cond (same m i) r (at whose xs m)
+-- what a store of a mobile's record makes of what is owed
+pub errand_after : (s t : sgsn.State) (i : Imsi) (r : Context) → whose r ≡ i → t.records ≡ stored whose r s.records → (m : Imsi) → errand_of t m ≡ cond (same m i) r.errand (errand_of s m)
+errand_after s t i r its e m =
+    ap (λ rs. errand_in (at whose rs m)) e
+    ∙ ap errand_in (at-stored whose r s.records m)
+    ∙ (λ x. errand_in (cond (same m (its x)) (Some r) (at whose s.records m)))
+    ∙ errand_cond (same m i) r (at whose s.records m)
 
 counted_owes : (o : Option Context) → counted owing_record o ≡ one (owes (errand_in o))
 counted_owes None = refl
 counted_owes (Some r) = refl
 
-pub owing-stored : (i : Imsi) (r : Context) (xs : List Context) → whose r ≡ i → count_by owing_record (stored whose r xs) + one (owes (errand_in (at whose xs i))) ≡ count_by owing_record xs + one (owes r.errand)
-owing-stored i r xs own = omega (arith, count-stored whose owing_record r xs, counted_owes (at whose xs (whose r)), ap (λ n. one (owes (errand_in (at whose xs n)))) own)
+pub owing_after : (s t : sgsn.State) (i : Imsi) (r : Context) → whose r ≡ i → t.records ≡ stored whose r s.records → owing t + one (owes (errand_of s i)) ≡ owing s + one (owes r.errand)
+owing_after s t i r its e =
+    omega (arith, ap (λ rs. count_by owing_record rs) e, count-stored whose owing_record r s.records, counted_owes (at whose s.records (whose r)), ap (λ n. one (owes (errand_of s n))) its)
 
 pub stays_same : (a b : Errand) → b ≡ a → Stays a b
 stays_same a b e = (ap owes e, λ o q. sym e ∙ q)
 
--- nothing more is owed, and nothing less
+-- The SGSN goes from s to t, and owes as before.
 pub record Kept (s t : sgsn.State) : Type 0 where
   pub own : t.own ≡ s.own
   pub stays : (m : Imsi) → Stays (errand_of s m) (errand_of t m)
@@ -197,8 +206,8 @@ kept_map s t f its keeps own e = record {
 pub kept_stored : (s t : sgsn.State) (i : Imsi) (r : Context) → whose r ≡ i → Stays (errand_of s i) r.errand → t.own ≡ s.own → t.records ≡ stored whose r s.records → Kept s t
 kept_stored s t i r its stays own e = record {
   own = own;
-  stays = λ m. subst (λ x. Stays (errand_of s m) x) (sym (ap (λ rs. errand_in (at whose rs m)) e ∙ errand-stored i r s.records m its)) (by_mobile m (same m i) refl);
-  count = omega (arith, ap (λ rs. count_by owing_record rs) e, owing-stored i r s.records its, ap one stays.0);
+  stays = λ m. subst (λ x. Stays (errand_of s m) x) (sym (errand_after s t i r its e m)) (by_mobile m (same m i) refl);
+  count = omega (arith, owing_after s t i r its e, ap one stays.0);
 }
   where
     by_mobile : (m : Imsi) (b : Bool) → same m i ≡ b → Stays (errand_of s m) (cond b r.errand (errand_of s m))
@@ -222,18 +231,18 @@ count-doubted (p ∷ ps) rs = count-doubted ps (doubted_by p rs) ∙ by_reset (r
     by_reset true = count-map owing_record (doubtful_at p.vlr) (λ r. ap owes (doubtful_errand p.vlr r)) rs
     by_reset false = refl
 
--- what is owed stays so, and there is a tick less for what is open
+-- what is owed stays so, and what is in time then is so after the tick
 abbrev pub Ticks : ℕ → Errand → Errand → Type 0
-Ticks t a b = (owes b ≡ owes a) × (((o : Open) → a ≡ errand.Open o → (t + left_of o ≤ 32) × (1 ≤ o.ticks)) → (o : Open) → b ≡ errand.Open o → (1 + t + left_of o ≤ 32) × (1 ≤ o.ticks))
+Ticks t a b = (owes b ≡ owes a) × (((o : Open) → a ≡ errand.Open o → InTime t o) → (o : Open) → b ≡ errand.Open o → InTime (1 + t) o)
 
 ticks_one : (n t : ℕ) (o : Option Context) → Ticks t (errand_in o) (errand_in (option_map (context_ticked n) o))
 ticks_one n t None = (refl, λ left o e. absurd (cc))
 ticks_one n t (Some r) = (ticked_owes n r, λ left o e. ticked_from n t r r.errand refl left o e)
 
-pub ticked_owed : (s : sgsn.State) → owing (recovering.ticked s) ≡ owing s
-ticked_owed s = count-doubted s.peers (recovering.records_ticked s.last s.records) ∙ count-ticked s.last s.records
+pub ticked_owed : (s : sgsn.State) → owing (ticked s) ≡ owing s
+ticked_owed s = count-doubted s.peers (records_ticked s.last s.records) ∙ count-ticked s.last s.records
 
-pub ticked_time : (s : sgsn.State) (m : Imsi) (t : ℕ) → Ticks t (errand_of s m) (errand_of (recovering.ticked s) m)
+pub ticked_time : (s : sgsn.State) (m : Imsi) (t : ℕ) → Ticks t (errand_of s m) (errand_of (ticked s) m)
 ticked_time s m t =
     let x = ticked-at s.last s.records m in
-    subst (λ e. Ticks t (errand_of s m) e) (sym (doubted-at s.peers (recovering.records_ticked s.last s.records) m ∙ ap errand_in x.1)) (ticks_one x.0 t (at whose s.records m))
+    subst (λ e. Ticks t (errand_of s m) e) (sym (doubted-at s.peers (records_ticked s.last s.records) m ∙ ap errand_in x.1)) (ticks_one x.0 t (at whose s.records m))

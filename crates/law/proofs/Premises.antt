@@ -1,11 +1,13 @@
 -- What a move of one end must show, so that what stands between the ends still stands after it.
-use Rattle.std.proofs.Common.{◌≡◌, ℕ, ◌+◌, ◌<◌, ◌≤◌, ◌⊎◌, Bool, true, false, List, [], ◌∷◌, Some, None, Option}
-use Rattle.std.specs.Prelude.{◌≢◌}
+use Rattle.std.proofs.Common.{◌≡◌, ℕ, ◌+◌, ◌<◌, ◌≤◌, ◌⊎◌, Bool, true, false, List, [], ◌∷◌, Some, None}
+use Rattle.std.specs.Prelude.{◌≢◌, ◌&&◌, not, map, nat_lt}
 use Rattle.std.specs.List.{list_all}
 use Rattle.elements.specs.declared.node.NodeNumber.{NodeNumber}
 use Rattle.carrier.specs.Waiting.{In}
 use Rattle.station.specs.declared.sending.Outgoing.{Outgoing}
 use Rattle.station.specs.Sends.{frames_of}
+use Rattle.directory.specs.Order.{rank_of, same}
+use Rattle.context.specs.Contexts.{whose}
 use Rattle.sgsn.specs.Fitting.{fits_in}
 use Rattle.imsi.specs.declared.Imsi.{Imsi}
 use Rattle.frames.specs.declared.frame.Frame.{Frame}
@@ -24,9 +26,19 @@ Among g (f ∷ fs) = (g ≡ f) ⊎ Among g fs
 abbrev pub Sends : NodeNumber → ℕ → List Outgoing → NodeNumber → Frame → Type 0
 Sends own last os n g = Among g (frames_of own last os) × (g.destination ≡ n)
 
--- the records of an SGSN are such as it may keep
-abbrev pub Fit : sgsn.State → Type 0
-Fit s = list_all (fits_in (sgsn.vlrs_of s)) s.records ≡ true
+-- a search for the first mobile passes the second
+abbrev pub passes : Imsi → Imsi → Bool
+passes m n = not (same m n) && not (nat_lt (rank_of m) (rank_of n))
+
+-- a search for each of these mobiles passes those before it
+abbrev pub rising : List Imsi → Bool
+rising [] = true
+rising (n ∷ ms) = list_all (λ m. passes m n) ms && rising ms
+
+-- The records of an SGSN are such as it may keep, and each is the one that is found for its mobile.
+pub record Fit (s : sgsn.State) : Type 0 where
+  pub fits : list_all (fits_in (sgsn.vlrs_of s)) s.records ≡ true
+  pub rise : rising (map whose s.records) ≡ true
 
 -- A take for node b gave this frame, from what waited and could be given before.
 pub record Given (b : NodeNumber) (f : Frame) (ws : List (List ℕ)) (ls : Stamps) (ws1 : List (List ℕ)) (ls1 : Stamps) : Type 0 where

@@ -58,15 +58,15 @@ use Rattle.law.specs.Steps.Came.{new, next}
 use Rattle.law.specs.Answers.{called, settled}
 use Rattle.law.specs.Steps.{Events, Step, Came, SgsnDecides, SgsnCalls, AtVlr, AtNode, is_vlr, is_sgsn}
 use Rattle.law.specs.Tables.{View, errand_in, errand_of}
-use Rattle.law.proofs.Owing.{left_of, Stays, stays_same, one, Kept, kept_same, kept_map, kept_stored, errand-stored, owing-stored, answered_stays, answered_whose, paged_errand, paged_whose, doubtful_errand, doubtful_whose, requested_owes, requested_left, requested_whose, detached_owes, detached_left, detached_whose, settled_owes, settled_whose, ticked_owed, ticked_time}
+use Rattle.law.proofs.Owing.{InTime, Stays, stays_same, one, errand_after, owing_after, Kept, kept_same, kept_map, kept_stored, answered_stays, answered_whose, paged_errand, paged_whose, doubtful_errand, doubtful_whose, requested_owes, requested_left, requested_whose, detached_owes, detached_left, detached_whose, settled_owes, settled_whose, ticked_owed, ticked_time}
 
 -- after these calls, replies are owed as they say, and each has its verdict in time
 pub record Replies (es : Events) (s : sgsn.State) : Type 0 where
   pub balanced : Balanced es s
   pub owed : Owed es s
-  pub left : (m : Imsi) (o : Open) → errand_of s m ≡ errand.Open o → (ticks_since s.own m es + left_of o ≤ 32) × (1 ≤ o.ticks)
+  pub left : (m : Imsi) (o : Open) → errand_of s m ≡ errand.Open o → InTime (ticks_since s.own m es) o
 
-timely_for : (t : ℕ) (e : Errand) → ((o : Open) → e ≡ errand.Open o → (t + left_of o ≤ 32) × (1 ≤ o.ticks)) → 32 ≤ t → is_open e ≡ false
+timely_for : (t : ℕ) (e : Errand) → ((o : Open) → e ≡ errand.Open o → InTime t o) → 32 ≤ t → is_open e ≡ false
 timely_for t errand.Idle left late = refl
 timely_for t (errand.Open o) left late = let l = left o refl in absurd (omega arith)
 timely_for t (errand.Ended v) left late = refl
@@ -92,13 +92,6 @@ and_true : (b : Bool) → (b && true) ≡ b
 and_true true = refl
 and_true false = refl
 
--- what happened to the one mobile whose record was stored
-pub errand_after : (s t : sgsn.State) (i : Imsi) (r : Context) → whose r ≡ i → t.records ≡ stored whose r s.records → (m : Imsi) → errand_of t m ≡ cond (same m i) r.errand (errand_of s m)
-errand_after s t i r its e m = ap (λ rs. errand_in (at whose rs m)) e ∙ errand-stored i r s.records m its
-
-owing_after : (s t : sgsn.State) (i : Imsi) (r : Context) → whose r ≡ i → t.records ≡ stored whose r s.records → owing t + one (owes (errand_of s i)) ≡ owing s + one (owes r.errand)
-owing_after s t i r its e = omega (arith, ap (λ rs. count_by (λ x. owes x.errand) rs) e, owing-stored i r s.records its)
-
 module _ (c : Call) (a : Answer) (es : Events) where
   -- a call that counts for nothing
   quiet : (s t : sgsn.State) → (asks c && accepted a) ≡ false → (settles c && accepted a) ≡ false → (ticks s.own c && accepted a) ≡ false → Kept s t → Replies es s → Replies ((c, a) ∷ es) t
@@ -109,8 +102,7 @@ module _ (c : Call) (a : Answer) (es : Events) where
         owed = λ m. (K.stays m).0 ∙ R.owed m ∙ sym (cond-false _ _ _ (none m) ∙ cond-false _ _ _ (between (settles c) (is_of m c) (accepted a) settle));
         left = λ m o e.
             let since : ticks_since t.own m ((c, a) ∷ es) ≡ ticks_since s.own m es = ap (λ n. ticks_since n m ((c, a) ∷ es)) K.own ∙ cond-false _ _ _ (none m) ∙ cond-false _ _ _ tick in
-            let l = R.left m o ((K.stays m).1 o e) in
-            (omega arith, l.1);
+            subst (λ n. InTime n o) (sym since) (R.left m o ((K.stays m).1 o e));
       }
 
   -- a call that was denied
@@ -120,7 +112,7 @@ module _ (c : Call) (a : Answer) (es : Events) where
 
   -- a request or a detach that was accepted
   asked : (s t : sgsn.State) (i : Imsi) (r : Context) → asks c ≡ true → settles c ≡ false → ((n : NodeNumber) → ticks n c ≡ false) → ((m : Imsi) → is_of m c ≡ same m i) → accepted a ≡ true
-      → whose r ≡ i → owes (errand_of s i) ≡ false → owes r.errand ≡ true → ((o : Open) → r.errand ≡ errand.Open o → (left_of o ≤ 32) × (1 ≤ o.ticks))
+      → whose r ≡ i → owes (errand_of s i) ≡ false → owes r.errand ≡ true → ((o : Open) → r.errand ≡ errand.Open o → InTime 0 o)
       → t.own ≡ s.own → t.records ≡ stored whose r s.records → Replies es s → Replies ((c, a) ∷ es) t
   asked s t i r ask settle tick of made its free now left own e R =
       let here : (m : Imsi) → (asks c && (is_of m c && accepted a)) ≡ same m i = λ m. (λ x. ask x && (of m x && made x)) ∙ and_true (same m i) in
@@ -135,20 +127,19 @@ module _ (c : Call) (a : Answer) (es : Events) where
           R.balanced,
         );
         owed = λ m. ap owes (errand_after s t i r its e m) ∙ owed_by m (same m i)
-            ∙ sym ((λ x. cond (here m x) true (cond (settle x && (is_of m c && accepted a)) false (owes_reply m es))));
+            ∙ sym (λ x. cond (here m x) true (cond (settle x && (is_of m c && accepted a)) false (owes_reply m es)));
         left = λ m o q.
             let since : ticks_since t.own m ((c, a) ∷ es) ≡ cond (same m i) 0 (ticks_since s.own m es) =
             ap (λ n. ticks_since n m ((c, a) ∷ es)) own ∙ (λ x. cond (here m x) 0 (cond (tick s.own x && accepted a) (1 + ticks_since s.own m es) (ticks_since s.own m es))) in
-            let l = left_by m (same m i) o (sym (errand_after s t i r its e m) ∙ q) in
-            (omega arith, l.1);
+            subst (λ n. InTime n o) (sym since) (left_by m (same m i) o (sym (errand_after s t i r its e m) ∙ q));
       }
     where
       owed_by : (m : Imsi) (b : Bool) → owes (cond b r.errand (errand_of s m)) ≡ cond b true (owes_reply m es)
       owed_by m true = now
       owed_by m false = R.owed m
 
-      left_by : (m : Imsi) (b : Bool) (o : Open) → cond b r.errand (errand_of s m) ≡ errand.Open o → (cond b 0 (ticks_since s.own m es) + left_of o ≤ 32) × (1 ≤ o.ticks)
-      left_by m true o q = let l = left o q in (omega arith, l.1)
+      left_by : (m : Imsi) (b : Bool) (o : Open) → cond b r.errand (errand_of s m) ≡ errand.Open o → InTime (cond b 0 (ticks_since s.own m es)) o
+      left_by m true o q = left o q
       left_by m false o q = R.left m o q
 
 -- a reply that was settled
@@ -158,15 +149,14 @@ settled_one i a es s t r made its owed now own e R = record {
   owed = λ m. ap owes (errand_after s t i r its e m) ∙ owed_by m (same m i) ∙ sym (ap (λ b. cond b false (owes_reply m es)) ((λ x. same m i && made x) ∙ and_true (same m i)));
   left = λ m o q.
       let since : ticks_since t.own m es ≡ ticks_since s.own m es = ap (λ n. ticks_since n m es) own in
-      let l = left_by m (same m i) o (sym (errand_after s t i r its e m) ∙ q) in
-      (omega arith, l.1);
+      subst (λ n. InTime n o) (sym since) (left_by m (same m i) o (sym (errand_after s t i r its e m) ∙ q));
 }
   where
     owed_by : (m : Imsi) (b : Bool) → owes (cond b r.errand (errand_of s m)) ≡ cond b false (owes_reply m es)
     owed_by m true = now
     owed_by m false = R.owed m
 
-    left_by : (m : Imsi) (b : Bool) (o : Open) → cond b r.errand (errand_of s m) ≡ errand.Open o → (ticks_since s.own m es + left_of o ≤ 32) × (1 ≤ o.ticks)
+    left_by : (m : Imsi) (b : Bool) (o : Open) → cond b r.errand (errand_of s m) ≡ errand.Open o → InTime (ticks_since s.own m es) o
     left_by m true o q = absurd (true≢false (sym (ap owes q) ∙ now))
     left_by m false o q = R.left m o q
 
@@ -177,8 +167,7 @@ ticked_one n a es s own made R = record {
   owed = λ m. (ticked_time s m 0).0 ∙ R.owed m;
   left = λ m o q.
       let since : ticks_since s.own m ((call.Tick n, a) ∷ es) ≡ 1 + ticks_since s.own m es = cond-true _ _ _ (λ x. own x && made x) in
-      let l = (ticked_time s m (ticks_since s.own m es)).1 (R.left m) o q in
-      (omega arith, l.1);
+      subst (λ k. InTime k o) (sym since) ((ticked_time s m (ticks_since s.own m es)).1 (R.left m) o q);
 }
 
 -- How a call that can be denied ends.

@@ -1,5 +1,5 @@
 -- What is known of the frames that an end sends, and of those that wait after a take.
-use Rattle.std.proofs.Common.{◌≡◌, ℕ, ◌+◌, ◌<◌, ◌≤◌, Bool, true, false, List, [], ◌∷◌, length, inl, inr, refl, sym, ap, ◌∙◌, arith}
+use Rattle.std.proofs.Common.{◌≡◌, ℕ, ◌+◌, ◌<◌, ◌≤◌, ◌⊎◌, Bool, true, false, List, [], ◌∷◌, ◌++◌, length, inl, inr, refl, sym, ap, ◌∙◌, subst, ⊎_elim, arith}
 use Rattle.std.specs.List.{list_all}
 use Rattle.std.proofs.lemmas.Bool.{and_parts, true≢false}
 use Rattle.elements.specs.declared.node.NodeNumber.{NodeNumber}
@@ -24,6 +24,14 @@ pub among_all : (p : Message → Bool) (own : NodeNumber) (last : ℕ) (os : Lis
 among_all p own last [] g all n = absurd n
 among_all p own last (o ∷ os) g all (inl e) = ap (λ x. p x.message) e ∙ (and_parts (p o.message) (list_all (λ o. p o.message) os) all).0
 among_all p own last (o ∷ os) g all (inr n) = among_all p own (last + 1) os g (and_parts (p o.message) (list_all (λ o. p o.message) os) all).1 n
+
+-- what is sent after other things was sent among those, or behind them
+pub among_either : (own : NodeNumber) (last : ℕ) (os ps : List Outgoing) (g : Frame) → Among g (frames_of own last (os ++ ps)) → Among g (frames_of own last os) ⊎ Among g (frames_of own (last + length os) ps)
+among_either own last [] ps g n = let e : last ≡ last + 0 = omega arith in inr (subst (λ l. Among g (frames_of own l ps)) e n)
+among_either own last (o ∷ os) ps g (inl e) = inl (inl e)
+among_either own last (o ∷ os) ps g (inr n) =
+    let e : (last + 1) + length os ≡ last + length (o ∷ os) = omega arith in
+    ⊎_elim (λ a. inl (inr a)) (λ b. inr (subst (λ l. Among g (frames_of own l ps)) e b)) (among_either own (last + 1) os ps g n)
 
 module _ (b : NodeNumber) (f : Frame) (ws : List (List ℕ)) (ls : Stamps) (ws1 : List (List ℕ)) (ls1 : Stamps) (G : Given b f ws ls ws1 ls1) where
   -- a take takes no stamp back

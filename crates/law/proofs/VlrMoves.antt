@@ -215,7 +215,7 @@ module _ (s : sgsn.State) (v : vlr.State) (ws : List (List ℕ)) (ls : Stamps) (
       last = omega arith;
       stamps = λ g n. among_stamps v.own v.last (answers_to v f) g n.0;
       reset = (row_kept v.row f.stamp f.answers f.message).0;
-      recovery = λ e. ⊎_elim (λ o. inl o) (λ a. inr (ended _ _ a.0 a.1)) ((row_kept v.row f.stamp f.answers f.message).1 e);
+      recovery = λ e. ⊎_elim (λ o. inl o) (λ x. inr (ended _ _ x.0 x.1)) ((row_kept v.row f.stamp f.answers f.message).1 e);
       sure = λ m h. ⊎_elim (λ t. inr (harmed _ _ m t)) (λ t. inl (ap mark_of (taken-at v f m) ∙ unharmed v.sgsn f.message m (record_at v m) t ∙ h)) (cases_Bool (harms m f.message));
       accepting = λ m g n k.
           let sent = answer_frame v.own v.last v.sgsn.node f.stamp (answer_to (noted v f.message) f.message) g n.0 in

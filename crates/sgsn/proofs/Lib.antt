@@ -4,7 +4,10 @@ pub mod Keeps
 pub mod Kept
 pub mod Loops
 pub mod Makes
+pub mod Moves
 pub mod Places
+pub mod Replied
+pub mod Requests
 pub mod Senders
 pub mod Stamps
 pub mod Ticks

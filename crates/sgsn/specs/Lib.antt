@@ -5,6 +5,7 @@ pub mod Fitting
 pub mod Making
 pub mod Peers
 pub mod Recovering
+pub mod Replies
 pub mod Requesting
 pub mod Settling
 pub mod State

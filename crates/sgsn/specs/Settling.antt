@@ -1,6 +1,7 @@
 -- Settling what a mobile is owed.
 use Rattle.std.specs.Prelude.{Bool, cond, Ok, Err, Some, None, Option, Result}
 use Rattle.imsi.specs.declared.Imsi.{Imsi}
+use Rattle.elements.specs.Nodes.{same_node}
 use Rattle.station.specs.declared.denial.Denial.{Denial}
 use Rattle.station.specs.declared.denial.Denial.TheVariants as denial
 use Rattle.station.specs.Sends.{is_worn}
@@ -11,6 +12,8 @@ use Rattle.context.specs.declared.errand.Verdict.{Verdict}
 use Rattle.context.specs.declared.errand.Verdict.TheVariants as verdict
 use Rattle.context.specs.Contexts.{idle}
 use Rattle.context.specs.Ticking.{expired}
+use Rattle.sgsn.specs.declared.reply.Reply.{Reply}
+use Rattle.sgsn.specs.Replies.{owed_by, owed_to}
 use Rattle.sgsn.specs.State.{State, record_at, with_context}
 
 -- where no reply is owed, and where there is no verdict yet; a worn end gives none later
@@ -44,3 +47,12 @@ settled s i = settled_as s (record_at s i)
 abbrev pub after_settling : State → Imsi → Result Verdict Denial → State
 after_settling s i (Ok v) = settled s i
 after_settling s i (Err d) = s
+
+-- the verdict that settles this reply, or why nothing does: another SGSN's is not settled here
+abbrev pub settling_reply : State → Reply → Result Verdict Denial
+settling_reply s p = cond (same_node (owed_by p) s.own) (settling s (owed_to p)) (Err denial.NoSuchReply)
+
+-- a verdict spends the reply, a denial hands it back
+abbrev pub or_handed_back : Reply → Result Verdict Denial → Result Verdict (Denial × Reply)
+or_handed_back p (Ok v) = Ok v
+or_handed_back p (Err d) = Err (d, p)

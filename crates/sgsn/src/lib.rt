@@ -2,10 +2,15 @@
 #![tactic(auto)]
 
 pub mod delivering;
+pub mod detaching;
 pub mod enrolling;
 mod keeping;
 pub mod making;
 pub mod peer;
 mod peers;
+pub mod reading;
 pub mod recovering;
+pub mod reply;
+pub mod requesting;
+pub mod settling;
 pub mod sgsn;

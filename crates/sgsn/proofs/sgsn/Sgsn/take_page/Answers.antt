@@ -28,4 +28,4 @@ keep_and_send-requires-clause-may g c =
     let r = c.in-Some.before in
     let fit = fits_at vs s.records c.args.imsi r c.args.self.now.fit (sym c.record_of.ensures ∙ c.in-Some.is) in
     let reach = reach_peers s.own s.peers c.args.self.now.nodes in
-    ap (list_all (may_go s.own)) c.page_sends-outgoing.ensures ∙ may_page s.own vs c.args.peer.vlr c.args.frame.stamp r reach fit c.requires.its
+    ap (list_all (may_go s.own)) c.page_sends-outgoing.ensures ∙ may_page s.own vs c.args.peer.vlr _ r reach fit c.requires.its

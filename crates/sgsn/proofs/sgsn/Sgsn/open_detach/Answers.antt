@@ -1,0 +1,32 @@
+use Rattle.std.proofs.Common.{◌+◌, sym, ap, ◌∙◌}
+use Rattle.std.specs.List.{list_all}
+use Rattle.station.specs.Sends.{may_go}
+use Rattle.context.specs.Contexts.{whose}
+use Rattle.sgsn.specs.Fitting.{fits_in}
+use Rattle.sgsn.specs.State.{state_of, vlrs_of}
+use Rattle.sgsn.proofs.Fits.{fits_at, fits_detached, reach_peers, may_detach}
+use Rattle.sgsn.proofs.Keeps.{held_as}
+use Rattle.sgsn.proofs.Moves.{detached_whose}
+use Rattle.sgsn.proofs.sgsn.Sgsn.open_detach.Goals as goal
+
+pub keep_and_send-requires-clause-held : goal.keep_and_send-requires-clause-held
+keep_and_send-requires-clause-held g c =
+    let r = c.in-Some-record_of.context in
+    held_as (state_of c.args.self.now) c.args.imsi r c.detached-after.result (sym c.record_of.ensures ∙ c.in-Some-record_of.is) (ap whose c.detached-after.ensures ∙ detached_whose c.in-Some.kind (c.args.self.now.sender.last + 1) r)
+
+pub keep_and_send-requires-clause-fits : goal.keep_and_send-requires-clause-fits
+keep_and_send-requires-clause-fits g c =
+    let s = state_of c.args.self.now in
+    let vs = vlrs_of s in
+    let r = c.in-Some-record_of.context in
+    let fit = fits_at vs s.records c.args.imsi r c.args.self.now.fit (sym c.record_of.ensures ∙ c.in-Some-record_of.is) in
+    ap (fits_in vs) c.detached-after.ensures ∙ fits_detached vs c.in-Some.kind (s.last + 1) r fit
+
+pub keep_and_send-requires-clause-may : goal.keep_and_send-requires-clause-may
+keep_and_send-requires-clause-may g c =
+    let s = state_of c.args.self.now in
+    let vs = vlrs_of s in
+    let r = c.in-Some-record_of.context in
+    let fit = fits_at vs s.records c.args.imsi r c.args.self.now.fit (sym c.record_of.ensures ∙ c.in-Some-record_of.is) in
+    let reach = reach_peers s.own s.peers c.args.self.now.nodes in
+    ap (list_all (may_go s.own)) c.detach_sends.ensures ∙ may_detach s.own vs c.in-Some.kind r reach fit
