@@ -55,12 +55,7 @@ fn make<C: InOrder>(vlr: &mut Vlr, carrier: &mut C, call: VlrCall) -> Answer
 }
 
 // Makes the call at the VLR that stands there.
-fn make_at<C: InOrder>(
-    vlrs: &mut [Vlr],
-    place: usize,
-    carrier: &mut C,
-    call: VlrCall,
-) -> Answer
+fn make_at<C: InOrder>(vlrs: &mut [Vlr], place: usize, carrier: &mut C, call: VlrCall) -> Answer
     requires { place < length vlrs.old }
     ensures long { length vlrs.new ≡ length vlrs.old }
     ensures makes { OneMakes C.Carrier.takes C.Carrier.puts call result place (states_of vlrs.old) carrier.old (states_of vlrs.new) carrier.new }

@@ -1,8 +1,9 @@
 // A site.
-ghost use Rattle.std.specs.Prelude.{◌≡◌};
+ghost use Rattle.std.specs.Prelude.{◌≡◌, ◌∷◌};
 ghost use Rattle.elements.specs.Nodes.{same_node};
-ghost use Rattle.law.specs.declared.call.Call.TheVariants.{Enrol, Lose, Deliver, Tick};
-ghost use Rattle.law.specs.Steps.{Step, AtVlr, is_vlr};
+ghost use Rattle.law.specs.declared.call.Call.TheVariants.{Lose, Deliver, Tick};
+ghost use Rattle.law.specs.Laws.{Law};
+ghost use Rattle.law.specs.Steps.{Step, AtVlr, Came, Events, is_vlr};
 ghost use Rattle.site.specs.Registers.{VlrMakes};
 ghost use Rattle.site.specs.Sites.{states_of, view_of};
 
@@ -10,7 +11,6 @@ use crate::registers::{VlrCall, make_by};
 use carrier::carrier::Carrier;
 use carrier::in_order::InOrder;
 use elements::node::NodeNumber;
-use imsi::Imsi;
 use law::call::{Answer, Call};
 use sgsn::sgsn::Sgsn;
 use vlr::vlr::Vlr;
@@ -68,9 +68,49 @@ impl<C: InOrder> Site<C> {
         }
     }
 
-    fn enrol(&mut self, imsi: Imsi, class: u8) -> Answer
-        ensures { Step C.Carrier.takes C.Carrier.puts (Enrol imsi class) result (view_of self.old) (view_of self.new) }
+    // One call, whichever it is.
+    fn step(&mut self, call: Call) -> Answer
+        ensures { Step C.Carrier.takes C.Carrier.puts call result (view_of self.old) (view_of self.new) }
     {
-        Answer::called(self.sgsn.enrol(imsi, class))
+        match call {
+            Call::Enrol { imsi, class } => Answer::called(self.sgsn.enrol(imsi, class)),
+            Call::Attach { imsi } => Answer::called(self.sgsn.attach(imsi)),
+            Call::Request { imsi, request } => {
+                Answer::called(self.sgsn.open_request(&mut self.carrier, imsi, request))
+            }
+            Call::Detach { imsi, kind } => {
+                Answer::called(self.sgsn.open_detach(&mut self.carrier, imsi, kind))
+            }
+            Call::Settle { imsi } => Answer::settled(self.sgsn.settle_by_record(imsi)),
+            Call::EnrolAtVlr {
+                vlr,
+                imsi,
+                home_cause,
+            } => self.at_vlr(vlr.node, VlrCall::Enrol { imsi, home_cause }),
+            Call::Page {
+                vlr,
+                imsi,
+                tmsi,
+                channel,
+            } => self.at_vlr(
+                vlr.node,
+                VlrCall::Page {
+                    imsi,
+                    tmsi,
+                    channel,
+                },
+            ),
+            Call::Lose { node } => self.lose(node),
+            Call::Deliver { node } => self.deliver(node),
+            Call::Tick { node } => self.tick(node),
+        }
+    }
+
+    // One call, whichever it is. The law: however the site came to be so from a new one, it holds after this call, too.
+    pub fn make(&mut self, call: Call) -> Answer
+        ensures step { Step C.Carrier.takes C.Carrier.puts call result (view_of self.old) (view_of self.new) }
+        ensures law { (es : Events) → Came C.Carrier.waiting C.InOrder.last_given C.Carrier.takes C.Carrier.puts es (view_of self.old) → Law ((call, result) ∷ es) (view_of self.new) }
+    {
+        self.step(call)
     }
 }

@@ -23,14 +23,17 @@ pub returns : goal.returns
 returns g c =
     let made : Made c.args.number c.args.vlrs.now (Ok c.in_ok-sgsn.sgsn) = c.in_ok-sgsn.ensures in
     let sgsn = c.in_ok-sgsn.sgsn in
-    let registers : states_of c.in_ok-vlrs.vlrs.items ≡ map (λ p. new_state p.vlr c.args.number) (take sgsn.count sgsn.peers) = rw (sub-zero sgsn.count) at c.in_ok-vlrs.ensures.made in
-    (made.0, refl, λ e. record {
-      number = c.args.number;
-      given = c.args.vlrs.now;
-      numbers = vlrs_of (state_of sgsn);
-      lawful = made.0;
-      risen = made.1;
-      sgsn = made.2;
-      vlrs = registers ∙ by_numbers (λ n. new_state n c.args.number) (take sgsn.count sgsn.peers);
-      empty = e;
-    })
+    let registers : states_of c.in_ok-vlrs.vlrs.items ≡ map (λ p. new_state p.vlr c.args.number) (take sgsn.count sgsn.peers) = rw (sub-zero sgsn.count) at c.in_ok-vlrs.ensures.made in (
+      made.0,
+      refl,
+      λ e. record {
+        number = c.args.number;
+        given = c.args.vlrs.now;
+        numbers = vlrs_of (state_of sgsn);
+        lawful = made.0;
+        risen = made.1;
+        sgsn = made.2;
+        vlrs = registers ∙ by_numbers (λ n. new_state n c.args.number) (take sgsn.count sgsn.peers);
+        empty = e;
+      },
+    )
