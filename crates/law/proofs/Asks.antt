@@ -1,5 +1,5 @@
 -- A request or a detach of a mobile.
-use Rattle.std.proofs.Common.{◌≡◌, ℕ, ◌+◌, ◌≤◌, Bool, true, false, cond, List, [], ◌∷◌, is_some, Some, None, Option, refl, sym, subst, arith}
+use Rattle.std.proofs.Common.{◌≡◌, ℕ, ◌+◌, ◌≤◌, Bool, true, false, cond, List, [], is_some, Some, None, Option, refl, sym, subst, arith}
 use Rattle.std.proofs.lemmas.Bool.{true≢false}
 use Rattle.std.proofs.lemmas.Option.{none-some, same_Some}
 use Rattle.imsi.specs.declared.Imsi.{Imsi}
@@ -12,9 +12,6 @@ use Rattle.messages.specs.declared.message.Message.TheVariants.{LuRequest}
 use Rattle.station.specs.Calls.{unless}
 use Rattle.station.specs.Marks.{node_in}
 use Rattle.context.specs.declared.context.Context.{Context}
-use Rattle.context.specs.declared.errand.Awaited.{Awaited}
-use Rattle.context.specs.declared.errand.Errand.TheVariants as errand
-use Rattle.context.specs.declared.errand.Open.{Open}
 use Rattle.context.specs.declared.kind.Request.{Request}
 use Rattle.context.specs.declared.kind.RequestKind.{RequestKind}
 use Rattle.context.specs.declared.kind.DetachKind.{DetachKind}
@@ -26,7 +23,7 @@ use Rattle.sgsn.specs.State as sgsn
 use Rattle.sgsn.specs.Requesting.{record_denial, kind_denial, requested_as, sends_for}
 use Rattle.sgsn.specs.Detaching as detach
 use Rattle.vlr.specs.State as vlr
-use Rattle.law.specs.Sound.{asked_in, update_stamp, reset_to}
+use Rattle.law.specs.Sound.{reset_to}
 use Rattle.law.proofs.Premises.{Sends, SgsnMove}
 use Rattle.law.proofs.Quieter.{none_unsure, unsure_unsure}
 use Rattle.law.proofs.OneRecord.{still, silent, quiet, told}

@@ -1,27 +1,21 @@
 -- Moves of an SGSN that leave what it keeps of its VLRs, and those that store one record.
-use Rattle.std.proofs.Common.{◌≡◌, ℕ, ◌+◌, ◌<◌, ◌≤◌, ◌⊎◌, inl, inr, Bool, true, false, cond, List, [], ◌∷◌, length, Some, None, Option, refl, sym, ap, ◌∙◌, subst, ⊎_elim, arith}
+use Rattle.std.proofs.Common.{◌≡◌, ℕ, ◌+◌, ◌<◌, ◌≤◌, ◌⊎◌, inl, inr, true, false, List, [], ◌∷◌, Some, refl, sym, ap, ◌∙◌, subst, ⊎_elim, arith}
 use Rattle.std.proofs.lemmas.Bool.{true≢false, cases_Bool, cond-true, cond-false}
-use Rattle.std.proofs.lemmas.Option.{none-some, same_Some}
 use Rattle.imsi.specs.declared.Imsi.{Imsi}
-use Rattle.elements.specs.declared.node.NodeNumber.{NodeNumber}
-use Rattle.elements.specs.declared.node.VlrNumber.{VlrNumber}
 use Rattle.frames.specs.declared.frame.Frame.{Frame}
 use Rattle.carrier.specs.Order.{Stamps}
 use Rattle.directory.specs.Order.{same}
 use Rattle.directory.specs.Lookup.{at, stored}
 use Rattle.directory.proofs.Lookups.{at-stored, at-whose, same_true}
-use Rattle.station.specs.declared.mark.Mark.{Mark}
 use Rattle.station.specs.declared.mark.Mark.TheVariants as mark
 use Rattle.station.specs.declared.sending.Outgoing.{Outgoing}
 use Rattle.station.specs.Sends.{frame_of}
 use Rattle.context.specs.declared.context.Context.{Context}
-use Rattle.context.specs.declared.errand.Errand.{Errand}
-use Rattle.context.specs.declared.errand.Errand.TheVariants as errand
 use Rattle.context.specs.Answering.{is_above}
 use Rattle.context.specs.Contexts.{whose}
 use Rattle.sgsn.specs.State as sgsn
 use Rattle.vlr.specs.State as vlr
-use Rattle.law.specs.Tables.{mark_in, errand_in, marked, errand_of}
+use Rattle.law.specs.Tables.{mark_in, errand_in}
 use Rattle.law.specs.Sound.{harms, is_acknowledgement, Sure, asked_in, asked, peer_of, reset_in, reset_to, due_in, due_to}
 use Rattle.law.proofs.Premises.{Granted, Sends, SgsnMove}
 use Rattle.law.proofs.Quieter.{Quieter}

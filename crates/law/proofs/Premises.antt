@@ -1,5 +1,5 @@
 -- What a move of one end must show, so that what stands between the ends still stands after it.
-use Rattle.std.proofs.Common.{◌≡◌, ℕ, ◌+◌, ◌<◌, ◌≤◌, ◌⊎◌, Bool, true, false, List, [], ◌∷◌, Some, None, Option}
+use Rattle.std.proofs.Common.{◌≡◌, ℕ, ◌+◌, ◌<◌, ◌≤◌, ◌⊎◌, Bool, true, false, List, [], ◌∷◌, Some, None}
 use Rattle.std.specs.Prelude.{◌≢◌, ◌&&◌, not, map, nat_lt}
 use Rattle.std.specs.List.{list_all}
 use Rattle.elements.specs.declared.node.NodeNumber.{NodeNumber}

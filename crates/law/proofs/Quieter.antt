@@ -1,7 +1,6 @@
 -- Records that are changed so that no VLR is surer, and that nothing more is asked.
 use Rattle.std.proofs.Common.{◌≡◌, ℕ, Bool, true, false, cond, ltb, List, [], ◌∷◌, map, Some, None, Option, refl, sym, ap, ◌∙◌, subst, arith}
 use Rattle.std.proofs.lemmas.Bool.{true≢false, cond_both}
-use Rattle.std.proofs.lemmas.Option.{none-some}
 use Rattle.imsi.specs.declared.Imsi.{Imsi}
 use Rattle.elements.specs.declared.node.NodeNumber.{NodeNumber}
 use Rattle.elements.specs.declared.node.VlrNumber.{VlrNumber}
@@ -64,9 +63,10 @@ quieter_twice [] [] (z ∷ zs) p q = absurd q
 quieter_twice [] (y ∷ ys) zs p q = absurd p
 quieter_twice (x ∷ xs) [] zs p q = absurd p
 quieter_twice (x ∷ xs) (y ∷ ys) [] p q = absurd q
-quieter_twice (x ∷ xs) (y ∷ ys) (z ∷ zs) p q =
-    (record { mobile = q.0.mobile ∙ p.0.mobile; sure = λ n h. p.0.sure n (q.0.sure n h); asking = λ a n h. p.0.asking a n (q.0.asking a n h) },
-    quieter_twice xs ys zs p.1 q.1)
+quieter_twice (x ∷ xs) (y ∷ ys) (z ∷ zs) p q = (
+  record { mobile = q.0.mobile ∙ p.0.mobile; sure = λ n h. p.0.sure n (q.0.sure n h); asking = λ a n h. p.0.asking a n (q.0.asking a n h) },
+  quieter_twice xs ys zs p.1 q.1,
+)
 
 -- what a mobile's record says, before and after
 pub record FoundQuieter (o o2 : Option Context) : Type 0 where

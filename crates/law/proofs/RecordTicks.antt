@@ -1,8 +1,7 @@
 -- What one tick of an SGSN's records changes and sends.
-use Rattle.std.proofs.Common.{◌≡◌, ℕ, ◌+◌, ◌-◌, ◌<◌, Bool, true, false, cond, ◌&&◌, ◌==◌, not, ltb, nat_le, List, [], ◌∷◌, map, length, inl, inr, Some, None, Option, refl, sym, ap, ◌∙◌, subst, ⊎_elim, arith}
+use Rattle.std.proofs.Common.{◌≡◌, ℕ, ◌+◌, Bool, true, false, cond, ◌==◌, not, ltb, nat_le, List, [], ◌∷◌, map, length, inl, inr, Some, None, Option, refl, sym, ap, ◌∙◌, subst, ⊎_elim}
 use Rattle.std.specs.List.{list_all}
 use Rattle.std.proofs.lemmas.Bool.{true≢false, cond-true, cond-false, cond_both, and_parts, not-true}
-use Rattle.std.proofs.lemmas.Bool.Decides.{nat_tests}
 use Rattle.std.proofs.lemmas.Option.{none-some}
 use Rattle.imsi.specs.declared.Imsi.{Imsi}
 use Rattle.elements.specs.declared.code.GprsDetachType.{GprsDetachType}
@@ -24,7 +23,7 @@ use Rattle.context.specs.declared.errand.Errand.TheVariants as errand
 use Rattle.context.specs.declared.errand.Open.{Open}
 use Rattle.context.specs.Contexts.{whose}
 use Rattle.context.specs.Errands.{is_open}
-use Rattle.context.specs.Ticking.{with_errand, told_again, one_less, expired, run_out, ticked_errand, context_ticked, detach_again, errand_sends, context_sends}
+use Rattle.context.specs.Ticking.{with_errand, told_again, one_less, expired, run_out, ticked_errand, detach_again, errand_sends, context_sends}
 use Rattle.sgsn.specs.Fitting.{fits_in}
 use Rattle.sgsn.specs.Peers.{doubted_by_all}
 use Rattle.sgsn.specs.Recovering.{records_ticked, records_sends, ticked}
@@ -122,9 +121,10 @@ abbrev pub Free : NodeNumber → Option Context → Type 0
 Free a o = (mark_in o ≡ mark.Confirmed (record { node = a }) → ⊥) × ((n : ℕ) → asked_in a (errand_in o) ≡ Some n → ⊥)
 
 again_free : (vs : List VlrNumber) (a : NodeNumber) (r : Context) (g : Frame) → fits_in vs r ≡ true → Again r g → Free a (Some r)
-again_free vs a r g f A =
-    (λ h. true≢false (sym (ap is_open A.waits) ∙ (sure_served vs r (record { node = a }) f h).1),
-    λ n h. A.asks a n (ap (asked_in a) (sym A.waits) ∙ h))
+again_free vs a r g f A = (
+  λ h. true≢false (sym (ap is_open A.waits) ∙ (sure_served vs r (record { node = a }) f h).1),
+  λ n h. A.asks a n (ap (asked_in a) (sym A.waits) ∙ h),
+)
 
 harmed_mobile : (m : Imsi) (r : Context) (g : Frame) → Again r g → harms m g.message ≡ true → m ≡ whose r
 harmed_mobile m r g A h = same_true m (whose r) (sym (ap (harms m) A.message) ∙ h)
@@ -155,6 +155,7 @@ records_free own vs a last (r ∷ rs) m g up f z h =
   where
     first : (i : Imsi) (x : Context) (o : Option Context) → i ≡ whose x → cond (same i (whose x)) (Some x) (cond (ltb (rank_of i) (rank_of (whose x))) None o) ≡ Some x
     first i x o e = cond-true (same i (whose x)) (Some x) (cond (ltb (rank_of i) (rank_of (whose x))) None o) (same_eq i (whose x) e)
+
     passed_by : (i : Imsi) (x : Context) (o : Option Context) → passes i (whose x) ≡ true → cond (same i (whose x)) (Some x) (cond (ltb (rank_of i) (rank_of (whose x))) None o) ≡ o
     passed_by i x o p =
         let parts = and_parts (not (same i (whose x))) (not (ltb (rank_of i) (rank_of (whose x)))) p in

@@ -1,5 +1,5 @@
 -- Records stay such that each is found by its mobile.
-use Rattle.std.proofs.Common.{◌≡◌, ℕ, ◌≤◌, ◌<◌, Bool, true, false, cond, ◌&&◌, not, ltb, nat_lt, List, [], ◌∷◌, map, refl, sym, ap, ◌∙◌, subst, arith}
+use Rattle.std.proofs.Common.{◌≡◌, Bool, true, false, cond, ltb, List, [], ◌∷◌, map, refl, sym, ap, ◌∙◌, subst, arith}
 use Rattle.std.specs.List.{list_all}
 use Rattle.std.proofs.lemmas.Bool.{and_parts, and_from}
 use Rattle.std.proofs.lemmas.Bool.Decides.{nat_tests}
@@ -31,7 +31,7 @@ all_above i n (m ∷ ms) l p =
 -- a store puts a record in its place
 all_stored : (n : Imsi) (r : Context) (rs : List Context) → passes (whose r) n ≡ true → list_all (λ m. passes m n) (map whose rs) ≡ true → list_all (λ m. passes m n) (map whose (stored whose r rs)) ≡ true
 all_stored n r [] p q = and_from _ _ p refl
-all_stored n r (x ∷ rs) p q = 
+all_stored n r (x ∷ rs) p q =
     let parts = and_parts (passes (whose x) n) (list_all (λ m. passes m n) (map whose rs)) q in
     by_place (same (whose r) (whose x)) (ltb (rank_of (whose r)) (rank_of (whose x))) parts.0 parts.1 (all_stored n r rs p parts.1)
   where

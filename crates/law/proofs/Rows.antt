@@ -1,6 +1,6 @@
 -- What an SGSN keeps of a VLR, after a frame from it.
-use Rattle.std.proofs.Common.{◌≡◌, ℕ, ◌⊎◌, inl, inr, Bool, true, false, cond, ◌&&◌, List, [], ◌∷◌, Some, None, Option, refl, sym, ap, ◌∙◌, subst, ⊎_elim}
-use Rattle.std.proofs.lemmas.Bool.{true≢false, cases_Bool, cond-true, cond-false, cond_both, and_parts, and_from}
+use Rattle.std.proofs.Common.{◌≡◌, ℕ, ◌⊎◌, inl, inr, Bool, true, false, cond, ◌&&◌, List, [], ◌∷◌, Some, Option, refl, sym, ap, ◌∙◌, subst, ⊎_elim}
+use Rattle.std.proofs.lemmas.Bool.{true≢false, cases_Bool, cond-true, cond-false, cond_both, and_parts}
 use Rattle.std.proofs.lemmas.Option.{none-some, same_Some}
 use Rattle.elements.specs.declared.node.NodeNumber.{NodeNumber}
 use Rattle.elements.specs.Nodes.{same_node}
@@ -51,6 +51,7 @@ module _ (f : Frame) where
       first : (b : Bool) → h (cond b (Some (with_row p (g p.row))) (peer_of n ps)) ≡ h (cond b (Some p) (peer_of n ps))
       first true = keeps p
       first false = refl
+
       rest : (b : Bool) → h (peer_of n (row_changed f g ps)) ≡ h (peer_of n ps) → h (cond b (Some p) (peer_of n (row_changed f g ps))) ≡ h (cond b (Some p) (peer_of n ps))
       rest true below = refl
       rest false below = below
@@ -65,6 +66,7 @@ module _ (f : Frame) where
       first : (b : Bool) → same_node p.vlr.node n ≡ b → sent_it f p ≡ true → due_in (cond b (Some (with_row p (reset_taken p.row k))) (peer_of n ps)) ≡ Some x → (due_in (cond b (Some p) (peer_of n ps)) ≡ Some x) ⊎ ((x ≡ k) × (n ≡ f.source))
       first true q e d = inr (sym (same_Some k x d), sym (same_node_lem p.vlr.node n q) ∙ sym (its_source p e))
       first false q e d = inl d
+
       rest : (b : Bool) → (due_in (peer_of n (row_changed f (λ r. reset_taken r k) ps)) ≡ Some x → (due_in (peer_of n ps) ≡ Some x) ⊎ ((x ≡ k) × (n ≡ f.source)))
           → due_in (cond b (Some p) (peer_of n (row_changed f (λ r. reset_taken r k) ps))) ≡ Some x → (due_in (cond b (Some p) (peer_of n ps)) ≡ Some x) ⊎ ((x ≡ k) × (n ≡ f.source))
       rest true below d = inl d

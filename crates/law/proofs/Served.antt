@@ -1,7 +1,6 @@
 -- What a record that an SGSN may keep says, where a VLR is sure of its mobile or is asked to be.
-use Rattle.std.proofs.Common.{◌≡◌, ℕ, Bool, true, false, cond, ◌&&◌, not, List, Some, None, Option, refl, sym, ap, ◌∙◌, arith}
-use Rattle.std.proofs.lemmas.Bool.{true≢false, and_parts}
-use Rattle.std.proofs.lemmas.Bool.Decides.{nat_tests}
+use Rattle.std.proofs.Common.{◌≡◌, ℕ, Bool, true, false, cond, ◌&&◌, not, List, Some, None, refl, sym, ap, ◌∙◌}
+use Rattle.std.proofs.lemmas.Bool.{and_parts}
 use Rattle.std.proofs.lemmas.Option.{none-some}
 use Rattle.elements.specs.declared.node.NodeNumber.{NodeNumber}
 use Rattle.elements.specs.declared.node.VlrNumber.{VlrNumber}
@@ -59,6 +58,7 @@ asking_served vs r a n f h = by_errand r.errand h (and_parts (sound_mark r.mark 
     by_awaited o (GprsDetach t x) false k e = absurd (none-some n k)
     by_awaited o (ImsiDetach x) true k e = absurd (none-some n k)
     by_awaited o (ImsiDetach x) false k e = absurd (none-some n k)
+
     by_errand : (e : Errand) → asked_in a e ≡ Some n → sound_errand e r ≡ true → r.attached ≡ true
     by_errand errand.Idle k t = absurd (none-some n k)
     by_errand (errand.Open o) k t = by_awaited o o.awaited (same_node o.vlr.node a) k t

@@ -72,9 +72,11 @@ module _ (s : sgsn.State) (v : vlr.State) (ws : List (List ℕ)) (ls : Stamps) (
       settles r errand.Idle q f = quiet s v ws ls P.reset_before (λ g. ⊥) (λ g n. n) (sgsn.with_context s r) refl refl (omega arith) i r r f refl (same_record r)
       settles r (errand.Open o) q f = quiet s v ws ls P.reset_before (λ g. ⊥) (λ g n. n) (sgsn.with_context s (idle (expired o r))) refl refl (omega arith) i r (idle (expired o r)) f refl (record { mobile = refl; sure = λ n h. h; asking = λ a n h. absurd (none-some n h) })
       settles r (errand.Ended w) q f = quiet s v ws ls P.reset_before (λ g. ⊥) (λ g n. n) (sgsn.with_context s (idle r)) refl refl (omega arith) i r (idle r) f refl (record { mobile = refl; sure = λ n h. h; asking = λ a n h. absurd (none-some n h) })
+
       settled_as_so : (o : Option Context) → sgsn.record_at s i ≡ o → SgsnMove s (settled_as s o) v ws ls (λ g. ⊥)
       settled_as_so None f = still s v ws ls P.reset_before (λ g. ⊥) (λ g n. n)
       settled_as_so (Some r) f = settles r r.errand refl f
+
       settled_so : (x : Result Verdict Denial) → SgsnMove s (after_settling s i x) v ws ls (λ g. ⊥)
       settled_so (Ok w) = settled_as_so (sgsn.record_at s i) refl
       settled_so (Err w) = still s v ws ls P.reset_before (λ g. ⊥) (λ g n. n)
@@ -96,6 +98,7 @@ module _ (s : sgsn.State) (v : vlr.State) (ws : List (List ℕ)) (ls : Stamps) (
     where
       unsure : (m : Imsi) → Sure (lost s) v.own m → ⊥
       unsure m h = found_unsure v.own (map doubtful s.records) m (unsure_map v.own doubtful (doubtful_nowhere _) s.records) h
+
       asked_so : (m : Imsi) (r : ℕ) → asked (lost s) v.own m ≡ Some r → asked s v.own m ≡ Some r
       asked_so m r a = (found_quieter s.records (map doubtful s.records) m (quieter_map doubtful quieter_doubtful s.records)).asking v.own r a
 
@@ -138,14 +141,19 @@ module _ (s : sgsn.State) (v : vlr.State) (ws : List (List ℕ)) (ls : Stamps) (
     where
       seen : (m : Imsi) → FoundQuieter (sgsn.record_at s m) (sgsn.record_at (ticked s) m)
       seen m = found_quieter s.records (ticked s).records m (quieter_all_ticked s)
+
       old : (r : ℕ) → r ≤ s.last → r ≤ last_between s
       old r l = omega (arith, l)
+
       either : (g : Frame) → Among g (frames_of s.own s.last (tick_sends s)) → Among g (frames_of s.own s.last (records_sends s.records)) ⊎ Among g (frames_of s.own (last_between s) (peers_sends s.own s.peers))
       either g n = among_either s.own s.last (records_sends s.records) (peers_sends s.own s.peers) g n
+
       free : (m : Imsi) (g : Frame) → Among g (frames_of s.own s.last (records_sends s.records)) → harms m g.message ≡ true → Free v.own (sgsn.record_at s m)
       free m g n h = records_free s.own (sgsn.vlrs_of s) v.own s.last s.records m g F.rise F.fits n h
+
       said : (g : Frame) → Among g (frames_of s.own (last_between s) (peers_sends s.own s.peers)) → g.destination ≡ v.own → (p : Peer) × (peer_of v.own s.peers ≡ Some p) × Says s.own p.row g
       said g n to = rows_say s.own v.own s.own (last_between s) s.peers g differ n to
+
       spared : (m : Imsi) (g : Frame) → (harms m g.message ≡ true → ⊥) → harms m g.message ≡ false
       spared m g never = ⊎_elim (λ t. absurd (never t)) (λ f. f) (cases_Bool (harms m g.message))
 

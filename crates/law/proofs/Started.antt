@@ -15,7 +15,6 @@ use Rattle.station.specs.declared.mark.Mark.{Mark}
 use Rattle.station.specs.declared.mark.Mark.TheVariants as mark
 use Rattle.sgsn.specs.declared.peer.Peer.{Peer}
 use Rattle.sgsn.specs.Making.{apart, lawful_numbers, placed, risen, new_peer, new_state}
-use Rattle.vlr.specs.State as vlr
 use Rattle.vlr.specs.Making as vlr_made
 use Rattle.law.specs.Sound.{Live, Pair, reset_in, due_in, due_to}
 use Rattle.law.proofs.Whole.{Each, numbers_of, Sound}

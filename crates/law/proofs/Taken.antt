@@ -1,5 +1,5 @@
 -- A frame that an SGSN took.
-use Rattle.std.proofs.Common.{◌≡◌, ℕ, ◌+◌, ◌<◌, ◌≤◌, ◌⊎◌, inl, inr, Bool, true, false, cond, ◌&&◌, ◌==◌, nat_lt, is_some, List, [], ◌∷◌, map, Some, None, Option, refl, sym, ap, ◌∙◌, subst, ⊎_elim, arith}
+use Rattle.std.proofs.Common.{◌≡◌, ℕ, ◌<◌, ◌≤◌, ◌⊎◌, inl, inr, Bool, true, false, cond, ◌&&◌, ◌==◌, nat_lt, is_some, List, [], map, Some, None, Option, refl, sym, ap, ◌∙◌, subst, ⊎_elim, arith}
 use Rattle.std.proofs.lemmas.Bool.{true≢false, cases_Bool, cond-true, cond_both, and_parts, ltb-true, eqb-true}
 use Rattle.std.proofs.lemmas.Bool.Decides.{nat_tests}
 use Rattle.std.proofs.lemmas.Option.{none-some, same_Some}
@@ -7,7 +7,6 @@ use Rattle.imsi.specs.declared.Imsi.{Imsi}
 use Rattle.elements.specs.declared.area.LocationArea.{LocationArea}
 use Rattle.elements.specs.declared.code.Cause.TheVariants as cause
 use Rattle.elements.specs.declared.code.RejectCause.{RejectCause}
-use Rattle.elements.specs.declared.node.NodeNumber.{NodeNumber}
 use Rattle.elements.specs.declared.node.VlrNumber.{VlrNumber}
 use Rattle.elements.specs.Nodes.{same_node}
 use Rattle.messages.specs.declared.message.Message.{Message}
@@ -15,7 +14,6 @@ use Rattle.messages.specs.declared.message.Message.TheVariants.{Paging, PagingFa
 use Rattle.frames.specs.declared.frame.Frame.{Frame}
 use Rattle.carrier.specs.Nodes.{same_node_lem, own_node}
 use Rattle.carrier.specs.Order.{Stamps}
-use Rattle.directory.specs.Order.{same}
 use Rattle.directory.proofs.Lookups.{at-whose, same_eq}
 use Rattle.station.specs.declared.mark.Mark.TheVariants as mark
 use Rattle.station.specs.Marks.{node_in}
@@ -30,17 +28,16 @@ use Rattle.context.specs.declared.errand.Awaited.{Awaited}
 use Rattle.context.specs.declared.errand.Awaited.TheVariants.{Update, GprsDetach, ImsiDetach}
 use Rattle.context.specs.Answering.{is_above, is_answer, let_go, accepted, on_accept, on_reject, on_gprs_acknowledge, on_imsi_acknowledge, matched, answered, answered_errand}
 use Rattle.context.specs.Contexts.{whose, doubtful_at}
-use Rattle.context.specs.Errands.{is_open}
 use Rattle.context.specs.Paging.{moves_to, now_at, status_to, failure_to}
 use Rattle.sgsn.specs.declared.peer.Peer.{Peer}
 use Rattle.sgsn.specs.Fitting.{fits_in}
 use Rattle.sgsn.proofs.Fits.{fits_at}
-use Rattle.sgsn.specs.Peers.{peer_from, row_changed, sent_it}
+use Rattle.sgsn.specs.Peers.{peer_from}
 use Rattle.sgsn.specs.State as sgsn
 use Rattle.sgsn.specs.Delivering.{acknowledged_by, answered_by, reset_by, paged_by, sends_for_page, taken, taken_by, sends, sends_by}
 use Rattle.vlr.specs.State as vlr
-use Rattle.law.specs.Tables.{mark_in, errand_in}
-use Rattle.law.specs.Sound.{Live, Pair, SureBy, Sure, accepts, harms, is_acknowledgement, asked, asked_in, update_stamp, answered_by as due_answers, peer_of, reset_in, reset_to, due_in, due_to}
+use Rattle.law.specs.Tables.{errand_in}
+use Rattle.law.specs.Sound.{Live, Pair, SureBy, accepts, asked, asked_in, update_stamp, answered_by as due_answers, peer_of, reset_in, reset_to, due_in}
 use Rattle.law.proofs.Premises.{Fit, Given, Granted, Heard, Sends, SgsnMove}
 use Rattle.law.proofs.Quieter.{Quieter, FoundQuieter, none_unsure, unsure_unsure, same_record, quieter_doubtful_at, quieter_map, found_quieter, unsure_map, found_unsure, doubtful_there}
 use Rattle.law.proofs.Sendings.{given_live}
@@ -117,8 +114,8 @@ module _ (s : sgsn.State) (v : vlr.State) (ws : List (List ℕ)) (ls : Stamps) (
         let reset : reset_to s v.own ≡ p.row.reset = ap reset_in (subst (λ n. peer_of n s.peers ≡ Some p) from (its_peer f s.peers p its)) in
         let known : is_above (reset_to s v.own) o.stamp ≡ true = ap (λ x. is_above x o.stamp) reset ∙ above in
         let asks : asked s v.own (whose r) ≡ Some o.stamp =
-          ap (λ x. asked_in v.own (errand_in x)) (own_record s i r e) ∙ ap (asked_in v.own) A.waits
-          ∙ cond-true (same_node o.vlr.node v.own) (update_stamp o o.awaited) None (ap (λ n. same_node n v.own) there ∙ own_node v.own) ∙ ap (update_stamp o) A.update in
+        ap (λ x. asked_in v.own (errand_in x)) (own_record s i r e) ∙ ap (asked_in v.own) A.waits
+        ∙ cond-true (same_node o.vlr.node v.own) (update_stamp o o.awaited) None (ap (λ n. same_node n v.own) there ∙ own_node v.own) ∙ ap (update_stamp o) A.update in
         let accepted_it : accepts (whose r) f.message ≡ true = ap (accepts (whose r)) fm ∙ same_eq (whose r) i (at-whose whose s.records i r e) in
         let sure : SureBy v (whose r) ⊎ ((x : ℕ) × (v.row.reset ≡ Some x) × (f.stamp < x)) = P.granted (whose r) o.stamp asks known f L accepted_it (sym stamp) in
         let before : (x : ℕ) → v.row.reset ≡ Some x → x ≤ ls v.own s.own → SureBy v (whose r) = λ x q h. ⊎_elim (λ y. y) (λ z. absurd (omega (arith, same_Some x z.0 (sym q ∙ z.1), z.2, h, L.later))) sure in
@@ -173,8 +170,10 @@ module _ (s : sgsn.State) (v : vlr.State) (ws : List (List ℕ)) (ls : Stamps) (
       where
         seen : (m : Imsi) → FoundQuieter (sgsn.record_at s m) (sgsn.record_at (reset_by s f p) m)
         seen m = found_quieter s.records (map (doubtful_at p.vlr) s.records) m (quieter_map (doubtful_at p.vlr) (quieter_doubtful_at p.vlr) s.records)
+
         same_reset : reset_to (reset_by s f p) v.own ≡ reset_to s v.own
         same_reset = row_kept f (λ r. reset_taken r f.stamp) reset_in (λ q. refl) v.own s.peers
+
         heard : (x : ℕ) → x ≡ f.stamp → v.own ≡ f.source → Heard s (reset_by s f p) v ws1 ls1 Quiet x
         heard x e from = record {
           given = omega (arith, ap (λ a. ls1 a s.own) from ∙ G.now, e);
@@ -206,6 +205,7 @@ module _ (s : sgsn.State) (v : vlr.State) (ws : List (List ℕ)) (ls : Stamps) (
       where
         fit : fits_in (sgsn.vlrs_of s) r ≡ true
         fit = fits_at (sgsn.vlrs_of s) s.records i r F.fits e
+
         pages : (a b : Bool) (o : Option VlrNumber) → r.attached ≡ a → moves_to p.vlr r ≡ b
             → SgsnMove s (sgsn.with_sent s (cond b (now_at p.vlr r) r) (cond a (cond b (status_to o r) []) (failure_to p.vlr f.stamp r))) v ws1 ls1 (Sends s.own s.last (cond a (cond b (status_to o r) []) (failure_to p.vlr f.stamp r)) v.own)
         pages true true None h k =

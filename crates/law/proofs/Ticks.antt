@@ -1,5 +1,5 @@
 -- What one tick of what an SGSN keeps of its VLRs changes and sends.
-use Rattle.std.proofs.Common.{◌≡◌, ℕ, ◌+◌, ◌-◌, ◌<◌, ◌≤◌, ◌⊎◌, inl, inr, Bool, true, false, cond, ◌&&◌, not, nat_le, nat_lt, List, [], ◌∷◌, ◌++◌, map, length, Some, None, Option, refl, sym, ap, ◌∙◌, subst, ⊎_elim, arith}
+use Rattle.std.proofs.Common.{◌≡◌, ℕ, ◌+◌, ◌-◌, ◌<◌, ◌≤◌, ◌⊎◌, inl, inr, Bool, true, false, cond, ◌&&◌, not, nat_le, List, [], ◌∷◌, map, length, Some, None, Option, refl, sym, ap, ◌∙◌, subst, ⊎_elim, arith}
 use Rattle.std.proofs.lemmas.Bool.{true≢false, cases_Bool, cond-true, cond-false, cond_both, and_parts, not-true, ltb-true}
 use Rattle.std.proofs.lemmas.List.{length-append}
 use Rattle.std.proofs.lemmas.Option.{none-some, same_Some}
@@ -10,7 +10,7 @@ use Rattle.frames.specs.declared.frame.Frame.{Frame}
 use Rattle.carrier.specs.Nodes.{same_node_lem, own_node}
 use Rattle.station.specs.declared.row.Due.{Due}
 use Rattle.station.specs.declared.row.Row.{Row}
-use Rattle.station.specs.Rows.{due_now, due_ticked, expired, later, repeat_now, repeated, reset_ticked}
+use Rattle.station.specs.Rows.{due_ticked, expired, later, repeat_now, repeated, reset_ticked}
 use Rattle.station.specs.Sends.{frames_of}
 use Rattle.station.specs.Ticks.{acknowledging, due_sends, repeat_sends, row_sends, row_ticked, reset_to}
 use Rattle.context.specs.declared.context.Context.{Context}
@@ -43,9 +43,11 @@ row_due own peer last x r e = by_due r.due (sym (ap (λ d. answered_by d) stays)
   where
     stays : (row_ticked own peer last r).due ≡ later r.due
     stays = cond_both (repeat_now r) (repeated (due_ticked r) (last + length (due_sends own peer r) + 1)) (reset_ticked (due_ticked r)) (λ y. y.due ≡ later r.due) (λ t. refl) (λ t. refl)
+
     by_ticks : (b : Bool) (d t : ℕ) → answered_by (cond b None (Some (record { answers = d; ticks = t }))) ≡ Some x → ◌≡◌ {A = Option ℕ} (Some d) (Some x)
     by_ticks true d t q = absurd (none-some x q)
     by_ticks false d t q = q
+
     by_due : (d : Option Due) → answered_by (later d) ≡ Some x → answered_by d ≡ Some x
     by_due None q = q
     by_due (Some d) q = by_ticks (nat_le d.ticks 1) d.answers (d.ticks - 1) q
@@ -133,6 +135,7 @@ doubted_there n (p ∷ ps) q rs e again = by_number (same_node p.vlr.node n) ref
     here there now =
         subst (NoneSure n) (sym (cond-true (repeat_now p.row) (map (doubtful_at p.vlr) rs) rs now))
         (subst (λ k. NoneSure k (map (doubtful_at p.vlr) rs)) there (unsure_map p.vlr.node (doubtful_at p.vlr) (doubtful_there p.vlr) rs))
+
     by_number : (b : Bool) → same_node p.vlr.node n ≡ b → cond b (Some p) (peer_of n ps) ≡ Some q → (peer_of n ps ≡ Some q → NoneSure n (doubted_by_all ps (doubted_by p rs))) → NoneSure n (doubted_by_all ps (doubted_by p rs))
     by_number true t y below =
         unsure_quieter n (doubted_by p rs) (doubted_by_all ps (doubted_by p rs)) (quieter_doubted ps (doubted_by p rs))
@@ -153,9 +156,11 @@ row_says own peer last r g a = ⊎_elim
     by_ticks true k (inl q) = (ap (λ f. f.destination) q, ap (λ f. f.message) q, ap (λ f. f.answers) q)
     by_ticks true k (inr z) = absurd z
     by_ticks false k z = absurd z
+
     by_due : (d : Option Due) → r.due ≡ d → Among g (frames_of own last (acknowledging own peer (expired d))) → (g.destination ≡ peer) × Says own r g
     by_due None e z = absurd z
     by_due (Some d) e z = let h = by_ticks (nat_le d.ticks 1) d.answers z in (h.0, inl (h.1, ap answered_by e ∙ ap (λ k. Some k) (sym h.2)))
+
     by_repeat : (b : Bool) → repeat_now r ≡ b → Among g (frames_of own (last + length (due_sends own peer r)) (cond b (reset_to own peer ∷ []) [])) → (g.destination ≡ peer) × Says own r g
     by_repeat true e (inl q) = (ap (λ f. f.destination) q, inr (ap (λ f. f.message) q, e))
     by_repeat true e (inr z) = absurd z

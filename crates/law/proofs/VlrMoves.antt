@@ -1,5 +1,5 @@
 -- Each move of a VLR shows what it must.
-use Rattle.std.proofs.Common.{◌≡◌, ℕ, ◌+◌, ◌<◌, ◌≤◌, ◌⊎◌, inl, inr, ⊎_elim, Bool, true, false, not, cond, ◌&&◌, ◌==◌, List, [], ◌∷◌, ◌++◌, length, is_some, Some, None, Option, refl, sym, ap, ◌∙◌, subst, arith}
+use Rattle.std.proofs.Common.{◌≡◌, ℕ, ◌+◌, ◌⊎◌, inl, inr, ⊎_elim, Bool, true, false, not, cond, ◌&&◌, ◌==◌, List, [], ◌∷◌, ◌++◌, length, is_some, Some, None, Option, refl, sym, ap, ◌∙◌, subst, arith}
 use Rattle.std.specs.List.{list_all}
 use Rattle.std.proofs.lemmas.Bool.{true≢false, false≢true, not-true, and_parts, cases_Bool, cond-true, cond-false, eqb-true}
 use Rattle.std.proofs.lemmas.Option.{none-some, same_Some}
@@ -37,7 +37,7 @@ use Rattle.directory.specs.Lookup.{at, stored}
 use Rattle.directory.specs.Order.{same}
 use Rattle.directory.proofs.Lookups.{at-stored, at-whose, same_true}
 use Rattle.law.specs.Tables.{mark_of, marked_by}
-use Rattle.law.specs.Sound.{Live, harms, is_acknowledgement, accepts, SureBy, Pair}
+use Rattle.law.specs.Sound.{Live, harms, is_acknowledgement, accepts, Pair}
 use Rattle.law.proofs.Premises.{Among, Given, Sends, Ended, Harmed, VlrMove, VlrRestart}
 use Rattle.law.proofs.Sendings.{among_stamps, among_all, given_later, given_live}
 

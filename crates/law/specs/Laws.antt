@@ -1,12 +1,10 @@
 -- The law of a site.
-use Rattle.std.specs.Prelude.{◌≡◌, ℕ, ◌+◌, ◌≤◌, ◌⊎◌, Bool, true, false, List, Some, None, Option}
+use Rattle.std.specs.Prelude.{◌≡◌, ℕ, ◌+◌, ◌≤◌, ◌⊎◌, true, false, List, Some, None, Option}
 use Rattle.std.specs.List.{find, count_by}
 use Rattle.imsi.specs.declared.Imsi.{Imsi}
 use Rattle.elements.specs.declared.node.VlrNumber.{VlrNumber}
 use Rattle.elements.specs.Nodes.{same_node}
 use Rattle.station.specs.declared.mark.Mark.TheVariants as mark
-use Rattle.context.specs.declared.errand.Errand.{Errand}
-use Rattle.context.specs.declared.errand.Errand.TheVariants as errand
 use Rattle.context.specs.Errands.{is_open, owes}
 use Rattle.sgsn.specs.State as sgsn
 use Rattle.vlr.specs.State as vlr

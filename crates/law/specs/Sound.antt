@@ -1,9 +1,8 @@
 -- What stands between an SGSN, one of its VLRs and the frames between them, whatever calls were made.
-use Rattle.std.specs.Prelude.{◌≡◌, ℕ, ◌<◌, ◌≤◌, ◌⊎◌, Bool, true, false, cond, List, [], ◌∷◌, Some, None, Option}
-use Rattle.std.specs.List.{list_all, find}
+use Rattle.std.specs.Prelude.{◌≡◌, ℕ, ◌<◌, ◌≤◌, ◌⊎◌, Bool, true, false, cond, List, Some, None, Option}
+use Rattle.std.specs.List.{find}
 use Rattle.imsi.specs.declared.Imsi.{Imsi}
 use Rattle.elements.specs.declared.node.NodeNumber.{NodeNumber}
-use Rattle.elements.specs.declared.node.VlrNumber.{VlrNumber}
 use Rattle.elements.specs.Nodes.{same_node}
 use Rattle.messages.specs.declared.message.Message.{Message}
 use Rattle.messages.specs.declared.message.Message.TheVariants.{Paging, PagingFailure, MobileStatus, LuRequest, LuAccept, LuReject, Reset, ResetAcknowledge, GprsDetachIndication, GprsDetachAcknowledge, ImsiDetachIndication, ImsiDetachAcknowledge}
@@ -14,8 +13,6 @@ use Rattle.carrier.specs.Waiting.{In}
 use Rattle.directory.specs.Order.{same}
 use Rattle.station.specs.declared.mark.Mark.TheVariants as mark
 use Rattle.station.specs.declared.row.Due.{Due}
-use Rattle.station.specs.declared.row.Row.{Row}
-use Rattle.context.specs.declared.context.Context.{Context}
 use Rattle.context.specs.declared.errand.Errand.{Errand}
 use Rattle.context.specs.declared.errand.Errand.TheVariants as errand
 use Rattle.context.specs.declared.errand.Open.{Open}
@@ -23,7 +20,6 @@ use Rattle.context.specs.declared.errand.Awaited.{Awaited}
 use Rattle.context.specs.declared.errand.Awaited.TheVariants.{Update, GprsDetach, ImsiDetach}
 use Rattle.context.specs.Answering.{is_above}
 use Rattle.sgsn.specs.declared.peer.Peer.{Peer}
-use Rattle.sgsn.specs.Fitting.{fits_in}
 use Rattle.sgsn.specs.State as sgsn
 use Rattle.vlr.specs.State as vlr
 use Rattle.law.specs.Tables.{marked, marked_by, errand_of}

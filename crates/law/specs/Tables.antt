@@ -1,7 +1,6 @@
 -- What the tables of a site say of a mobile.
-use Rattle.std.specs.Prelude.{◌≡◌, ℕ, Bool, true, false, is_some, List, Some, None, Option}
+use Rattle.std.specs.Prelude.{Bool, is_some, List, Some, None, Option}
 use Rattle.imsi.specs.declared.Imsi.{Imsi}
-use Rattle.elements.specs.declared.node.NodeNumber.{NodeNumber}
 use Rattle.elements.specs.declared.node.SgsnNumber.{SgsnNumber}
 use Rattle.elements.specs.declared.node.VlrNumber.{VlrNumber}
 use Rattle.directory.specs.Lookup.{at}
