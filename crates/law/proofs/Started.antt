@@ -17,11 +17,8 @@ use Rattle.sgsn.specs.declared.peer.Peer.{Peer}
 use Rattle.sgsn.specs.Making.{apart, lawful_numbers, placed, risen, new_peer, new_state}
 use Rattle.vlr.specs.Making as vlr_made
 use Rattle.law.specs.Sound.{Live, Pair, reset_in, due_in, due_to}
+use Rattle.law.proofs.Quieter.{none_unsure}
 use Rattle.law.proofs.Whole.{Each, numbers_of, Sound}
-
--- to be marked None is not to be sure
-pub not_sure : {N : Type 0} (n : N) → ◌≡◌ {A = Mark N} mark.None (mark.Confirmed n) → ⊥
-not_sure n e = let z : ◌≡◌ {A = ℕ} 0 1 = cc in omega arith
 
 -- different either way round
 same_back : (a b : NodeNumber) → not (same_node a b) ≡ true → not (same_node b a) ≡ true
@@ -76,13 +73,13 @@ module _ (number : SgsnNumber) where
         let not_due : (x : ℕ) → due_to s k.node ≡ Some x → ⊥ = λ x e. none-some x (sym (none_due (λ p. same_node p.vlr.node k.node) (risen numbers)) ∙ e) in
         record {
           its = refl;
-          quiet = λ e m h. absurd (not_sure _ h);
+          quiet = λ e m h. absurd (none_unsure _ h);
           due = λ x d. absurd (not_due x d);
           acknowledged = λ f l. absurd (nothing _ _ f l);
           heard = λ e x r. absurd (none-some x r);
           heard_due = λ x d. absurd (not_due x d);
           heard_acknowledged = λ f l. absurd (nothing _ _ f l);
-          clear = λ m h. absurd (not_sure _ h);
+          clear = λ m h. absurd (none_unsure _ h);
           granted = λ m r a. absurd (none-some r a);
           pending = λ m r a. absurd (none-some r a);
           known = λ m f l. absurd (nothing _ _ f l);
