@@ -7,9 +7,7 @@ use Rattle.elements.specs.declared.code.Class.{Class}
 use Rattle.elements.specs.declared.node.VlrNumber.{VlrNumber}
 use Rattle.elements.specs.Nodes.{same_node}
 use Rattle.carrier.specs.Order.{Stamps}
-use Rattle.station.specs.declared.denial.Denial.{Denial}
 use Rattle.messages.specs.declared.message.Message.TheVariants.{LuRequest}
-use Rattle.station.specs.Calls.{unless}
 use Rattle.station.specs.Marks.{node_in}
 use Rattle.context.specs.declared.context.Context.{Context}
 use Rattle.context.specs.declared.kind.Request.{Request}

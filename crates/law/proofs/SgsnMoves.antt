@@ -25,7 +25,7 @@ use Rattle.sgsn.specs.declared.peer.Peer.{Peer}
 use Rattle.sgsn.specs.Making.{apart}
 use Rattle.sgsn.specs.Peers.{peer_from, peers_sends}
 use Rattle.sgsn.specs.Requesting.{request_denial, requested, request_sends}
-use Rattle.sgsn.specs.Detaching.{detach_denial, detached, detach_sends}
+use Rattle.sgsn.specs.Detaching.{detached, detach_sends}
 use Rattle.sgsn.specs.Settling.{settling, after_settling, settled_as, settled_errand}
 use Rattle.sgsn.specs.Delivering.{moved_by_frame, sends_by_frame}
 use Rattle.sgsn.specs.Recovering.{lost, resets, records_ticked, records_sends, last_between, ticked, tick_sends}

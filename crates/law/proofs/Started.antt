@@ -11,8 +11,6 @@ use Rattle.frames.specs.declared.frame.Frame.{Frame}
 use Rattle.frames.specs.Format.{frame_octets}
 use Rattle.carrier.specs.Order.{Stamps, Empty}
 use Rattle.carrier.specs.Waiting.{In}
-use Rattle.station.specs.declared.mark.Mark.{Mark}
-use Rattle.station.specs.declared.mark.Mark.TheVariants as mark
 use Rattle.sgsn.specs.declared.peer.Peer.{Peer}
 use Rattle.sgsn.specs.Making.{apart, lawful_numbers, placed, risen, new_peer, new_state}
 use Rattle.vlr.specs.Making as vlr_made
