@@ -16,9 +16,11 @@ pub struct Context {
     pub class: ServiceClass,
     // whether the mobile has packet service
     pub attached: bool,
+    // which VLR serves it with voice service, and how surely
     pub mark: Mark<VlrNumber>,
     // the area that a VLR accepted last
     pub area: Option<LocationArea>,
+    // its last request or detach, until the reply to it is settled
     pub errand: Errand,
 }
 
@@ -76,14 +78,12 @@ impl Context {
         }
     }
 
-    // Its reply was settled.
+    // The reply to it was settled.
     pub fn idle(self) -> Context
         ensures { result ≡ idle self }
     {
-        Context {
-            errand: Errand::Idle,
-            ..self
-        }
+        let errand = Errand::Idle;
+        Context { errand, ..self }
     }
 }
 
@@ -99,7 +99,7 @@ impl Change<Context> for Doubt {
     }
 }
 
-// After a loss that this VLR tells of, or is told of: it is sure of no mobile.
+// After a loss that this VLR told of, or is told of: it is sure of no mobile.
 #[derive(Clone, Copy, Debug, PartialEq, Eq)]
 pub struct DoubtAt {
     pub vlr: VlrNumber,

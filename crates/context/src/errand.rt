@@ -52,11 +52,14 @@ pub struct Open {
     pub awaited: Awaited,
 }
 
-// A reply is owed to the mobile unless it is idle.
+// Each request or detach owes the mobile a reply, which stays owed after the verdict until it is settled.
 #[derive(Clone, Copy, Debug, PartialEq, Eq)]
 pub enum Errand {
+    // nothing is owed
     Idle,
+    // the VLR's answer is to come
     Open(Open),
+    // the reply can be settled
     Ended(Verdict),
 }
 

@@ -12,6 +12,7 @@ pub enum RequestKind {
     CombinedAttach = 1,
     // for voice service, of a mobile that has packet service
     ImsiAttach = 2,
+    // it entered another location area
     AreaChange = 3,
 }
 
@@ -35,7 +36,7 @@ impl RequestKind {
         self == RequestKind::CombinedAttach
     }
 
-    // As a location update names it.
+    // The kind of location update that the VLR is asked for.
     pub fn update_type(self) -> UpdateType
         ensures { result ≡ update_type self }
     {
@@ -63,8 +64,9 @@ pub enum DetachKind {
     ByNetwork = 2,
     // the mobile leaves voice service, and keeps packet service
     Imsi = 3,
+    // it leaves both
     ImsiAndGprs = 4,
-    // the mobile does not wait for an answer
+    // it leaves both, and does not wait for an answer
     SwitchedOff = 5,
 }
 

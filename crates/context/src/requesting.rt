@@ -1,4 +1,4 @@
-// What a request makes of a mobile's record, and what goes to the VLR.
+// What a request makes of a mobile's record.
 ghost use Rattle.std.specs.Prelude.{◌≡◌};
 ghost use Rattle.context.specs.Requesting.{needs_no_frame, requested};
 

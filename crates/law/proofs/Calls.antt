@@ -1,5 +1,5 @@
 -- Each call keeps what stands at a whole site, so that it stands after any calls.
-use Rattle.std.proofs.Common.{◌≡◌, ℕ, inl, inr, Bool, true, false, List, ◌∷◌, ◌++◌, Ok, Err, Some, None, Option, Result, sym, refl, ap, subst, ◌∙◌}
+use Rattle.std.proofs.Common.{◌≡◌, ℕ, inl, inr, Bool, true, false, List, ◌∷◌, ◌++◌, Ok, Err, Some, None, Option, Result, sym, refl, ap, subst}
 use Rattle.imsi.specs.declared.Imsi.{Imsi}
 use Rattle.elements.specs.declared.fault.Fault.{Fault}
 use Rattle.elements.specs.declared.node.NodeNumber.{NodeNumber}
@@ -13,7 +13,6 @@ use Rattle.station.specs.Calls.{Decided, Called}
 use Rattle.station.specs.Receiving.{Received, Asked, moved_by, sends_by}
 use Rattle.station.specs.Rows.{repeat_now}
 use Rattle.station.specs.Sends.{is_worn, Sent}
-use Rattle.sgsn.specs.Making.{apart}
 use Rattle.sgsn.specs.State as sgsn
 use Rattle.sgsn.specs.Settling.{settling, after_settling}
 use Rattle.sgsn.specs.Delivering as sgsn_deliver
@@ -32,9 +31,10 @@ use Rattle.law.specs.Sound.{Pair}
 use Rattle.law.proofs.Premises.{Sends, SgsnMove}
 use Rattle.law.proofs.Carried.{Carries, unsent, sent, readable, took}
 use Rattle.law.proofs.Keeping.{Keeps, keeps_enrolled, keeps_attached, keeps_requested, keeps_detached, keeps_settled, keeps_lost, keeps_ticked, keeps_moved}
+use Rattle.law.proofs.Numbers.{lawful_apart, apart_reordered}
 use Rattle.law.proofs.SgsnMoves as sgsn_moves
 use Rattle.law.proofs.VlrMoves as vlr_moves
-use Rattle.law.proofs.Whole.{each_map, each_at, Sound, given, none_given, sgsn_goes, Goes, vlr_goes}
+use Rattle.law.proofs.Whole.{each_map, each_at, Sound, vlrs_differ, given, none_given, sgsn_goes, Goes, vlr_goes}
 use Rattle.law.proofs.Started.{started}
 
 module _ {C : Type 0} (waiting : C → List (List ℕ)) (latest : C → Stamps) (takes : C → NodeNumber → Option (List ℕ) → C → Type 0) (puts : C → List ℕ → C → Type 0) (K : Carries waiting latest takes puts) where
@@ -203,12 +203,12 @@ module _ {C : Type 0} (waiting : C → List (List ℕ)) (latest : C → Stamps) 
   step (call.Deliver n) a x y S D = at_node (is_sgsn takes puts n x) (SgsnDelivers takes puts) n (VlrDelivers takes puts) a x y (sgsn_delivers x y S a) (vlr_delivers a) S D
   step (call.Tick n) a x y S D =
       at_node (is_sgsn takes puts n x) _ n _ a x y
-      (sgsn_calls x y S a _ _ _ (λ d. keeps_ticked x.sgsn S.fit) (λ d v P. sgsn_moves.ticked_moves x.sgsn v _ _ S.fit P (ap (apart x.sgsn.own) S.numbers ∙ S.differ)))
+      (sgsn_calls x y S a _ _ _ (λ d. keeps_ticked x.sgsn S.fit) (λ d v P. sgsn_moves.ticked_moves x.sgsn v _ _ S.fit P (vlrs_differ x.sgsn x.vlrs _ _ S)))
       (vlr_calls vlr_call.worn_denial vlr_recover.ticked vlr_recover.tick_sends (λ s v ws ls P. vlr_ticks (repeat_now v.row) s v ws ls P refl) a) S D
 
   -- a new site
   made : (x : View C) → New waiting latest x → StandsAt x
-  made x N = same_site _ x.sgsn _ x.vlrs x.carrier x.carrier N.sgsn N.vlrs refl (started N.number N.numbers (waiting x.carrier) (latest x.carrier) N.empty N.lawful)
+  made x N = same_site _ x.sgsn _ x.vlrs x.carrier x.carrier N.sgsn N.vlrs refl (started N.number N.numbers (waiting x.carrier) (latest x.carrier) N.empty (apart_reordered N.number.node N.given N.numbers N.risen.0 (lawful_apart N.number N.given N.lawful)))
 
   -- what should stand stands after any calls
   pub sound : {es : Events} {x : View C} → Came waiting latest takes puts es x → StandsAt x

@@ -3,12 +3,16 @@ pub mod Asks
 pub mod Calls
 pub mod Carried
 pub mod Keeping
+pub mod Lawful
 pub mod Losses
+pub mod Numbers
 pub mod OneRecord
+pub mod Owing
 pub mod Pairs
 pub mod Premises
 pub mod Quieter
 pub mod RecordTicks
+pub mod Replies
 pub mod Rising
 pub mod Rows
 pub mod Sendings

@@ -22,7 +22,7 @@ use Rattle.context.specs.declared.kind.Request.{Request}
 use Rattle.sgsn.specs.State as sgsn
 use Rattle.sgsn.specs.Enrolling as enrol
 use Rattle.sgsn.specs.declared.peer.Peer.{Peer}
-use Rattle.sgsn.specs.Making.{apart}
+use Rattle.sgsn.specs.Making.{all_different}
 use Rattle.sgsn.specs.Peers.{peer_from, peers_sends}
 use Rattle.sgsn.specs.Requesting.{request_denial, requested, request_sends}
 use Rattle.sgsn.specs.Detaching.{detached, detach_sends}
@@ -104,7 +104,7 @@ module _ (s : sgsn.State) (v : vlr.State) (ws : List (List ℕ)) (ls : Stamps) (
       asked_so m r a = (found_quieter s.records (map doubtful s.records) m (quieter_map doubtful quieter_doubtful s.records)).asking v.own r a
 
   -- no two of its VLRs have one number
-  pub ticked_moves : apart s.own (sgsn.vlrs_of s) ≡ true → SgsnMove s (ticked s) v ws ls (Sends s.own s.last (tick_sends s) v.own)
+  pub ticked_moves : all_different (sgsn.vlrs_of s) ≡ true → SgsnMove s (ticked s) v ws ls (Sends s.own s.last (tick_sends s) v.own)
   ticked_moves differ = record {
     own = refl;
     last = omega arith;
@@ -153,7 +153,7 @@ module _ (s : sgsn.State) (v : vlr.State) (ws : List (List ℕ)) (ls : Stamps) (
       free m g n h = records_free s.own (sgsn.vlrs_of s) v.own s.last s.records m g F.rise F.fits n h
 
       said : (g : Frame) → Among g (frames_of s.own (last_between s) (peers_sends s.own s.peers)) → g.destination ≡ v.own → (p : Peer) × (peer_of v.own s.peers ≡ Some p) × Says s.own p.row g
-      said g n to = rows_say s.own v.own s.own (last_between s) s.peers g differ n to
+      said g n to = rows_say s.own v.own (last_between s) s.peers g differ n to
 
       spared : (m : Imsi) (g : Frame) → (harms m g.message ≡ true → ⊥) → harms m g.message ≡ false
       spared m g never = ⊎_elim (λ t. absurd (never t)) (λ f. f) (cases_Bool (harms m g.message))

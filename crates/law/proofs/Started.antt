@@ -1,45 +1,22 @@
 -- What should stand at a whole site stands at a new one.
-use Rattle.std.proofs.Common.{◌≡◌, ℕ, Bool, true, not, nat_lt, List, [], ◌∷◌, map, find, Some, None, sym, refl, ap, ◌∙◌, subst, arith}
-use Rattle.std.proofs.lemmas.Bool.{and_parts, and_from, cond_both}
-use Rattle.std.proofs.lemmas.Bool.Decides.{nat_tests}
+use Rattle.std.proofs.Common.{◌≡◌, ℕ, Bool, true, List, [], ◌∷◌, map, find, Some, None, sym, refl, ap, ◌∙◌, subst, arith}
+use Rattle.std.proofs.lemmas.Bool.{cond_both}
 use Rattle.std.proofs.lemmas.Option.{none-some}
 use Rattle.elements.specs.declared.node.NodeNumber.{NodeNumber}
 use Rattle.elements.specs.declared.node.SgsnNumber.{SgsnNumber}
 use Rattle.elements.specs.declared.node.VlrNumber.{VlrNumber}
-use Rattle.elements.specs.Nodes.{lawful_node, same_node}
+use Rattle.elements.specs.Nodes.{same_node}
 use Rattle.frames.specs.declared.frame.Frame.{Frame}
 use Rattle.frames.specs.Format.{frame_octets}
 use Rattle.carrier.specs.Order.{Stamps, Empty}
 use Rattle.carrier.specs.Waiting.{In}
 use Rattle.sgsn.specs.declared.peer.Peer.{Peer}
-use Rattle.sgsn.specs.Making.{apart, lawful_numbers, placed, risen, new_peer, new_state}
+use Rattle.sgsn.specs.Making.{new_peer, new_state}
 use Rattle.vlr.specs.Making as vlr_made
 use Rattle.law.specs.Sound.{Live, Pair, reset_in, due_in, due_to}
+use Rattle.law.proofs.Numbers.{apart}
 use Rattle.law.proofs.Quieter.{none_unsure}
 use Rattle.law.proofs.Whole.{Each, numbers_of, Sound}
-
--- different either way round
-same_back : (a b : NodeNumber) → not (same_node a b) ≡ true → not (same_node b a) ≡ true
-same_back a b e = grind (arith, nat_tests)
-
--- numbers that are all different are so in rising order, too
-apart_placed : (ws : List VlrNumber) (n : NodeNumber) (v : VlrNumber) → not (same_node v.node n) ≡ true → apart n ws ≡ true → apart v.node ws ≡ true → apart n (placed v ws) ≡ true
-apart_placed [] n v d a b = and_from _ _ d refl
-apart_placed (w ∷ ws) n v d a b =
-    let p = and_parts (not (same_node w.node n)) _ a in
-    let q = and_parts (apart n ws) (apart w.node ws) p.1 in
-    let r = and_parts (not (same_node w.node v.node)) _ b in
-    let t = and_parts (apart v.node ws) (apart w.node ws) r.1 in
-    cond_both (nat_lt v.node.number w.node.number) (v ∷ w ∷ ws) (w ∷ placed v ws) (λ l. apart n l ≡ true)
-    (λ e. and_from _ _ d (and_from _ _ a b))
-    (λ e. and_from _ _ p.0 (and_from _ _ (apart_placed ws n v d q.0 t.0) (apart_placed ws w.node v (same_back w.node v.node r.0) q.1 t.0)))
-
-apart_risen : (vs : List VlrNumber) (n : NodeNumber) → apart n vs ≡ true → apart n (risen vs) ≡ true
-apart_risen [] n a = refl
-apart_risen (v ∷ vs) n a =
-    let p = and_parts (not (same_node v.node n)) _ a in
-    let q = and_parts (apart n vs) (apart v.node vs) p.1 in
-    apart_placed (risen vs) n v p.0 (apart_risen vs n q.0) (apart_risen vs v.node q.1)
 
 -- the numbers are those that the site was made with
 peers_made : (ks : List VlrNumber) → map (λ p. p.vlr) (map new_peer ks) ≡ ks
@@ -68,7 +45,7 @@ module _ (number : SgsnNumber) where
     new_pair : (k : VlrNumber) → Pair (new_state number numbers) (vlr_made.new_state k number) ws ls
     new_pair k =
         let s = new_state number numbers in
-        let not_due : (x : ℕ) → due_to s k.node ≡ Some x → ⊥ = λ x e. none-some x (sym (none_due (λ p. same_node p.vlr.node k.node) (risen numbers)) ∙ e) in
+        let not_due : (x : ℕ) → due_to s k.node ≡ Some x → ⊥ = λ x e. none-some x (sym (none_due (λ p. same_node p.vlr.node k.node) numbers) ∙ e) in
         record {
           its = refl;
           quiet = λ e m h. absurd (none_unsure _ h);
@@ -84,23 +61,19 @@ module _ (number : SgsnNumber) where
           down = λ f l. absurd (nothing _ _ f l);
           up = λ f l. absurd (nothing _ _ f l);
           asked_before = λ m r a. absurd (none-some r a);
-          reset_before = λ x e. absurd (none-some x (sym (no_reset (λ p. same_node p.vlr.node k.node) (risen numbers)) ∙ e));
+          reset_before = λ x e. absurd (none-some x (sym (no_reset (λ p. same_node p.vlr.node k.node) numbers) ∙ e));
         }
 
     new_each : (ks : List VlrNumber) → Each (λ v. Pair (new_state number numbers) v ws ls) (map (λ n. vlr_made.new_state n number) ks)
     new_each [] = tt
     new_each (k ∷ ks) = (new_pair k, new_each ks)
 
-    pub started : lawful_numbers number numbers ≡ true → Sound (new_state number numbers) (map (λ n. vlr_made.new_state n number) (risen numbers)) ws ls
-    started l =
-        let few = and_parts _ _ l in
-        let many = and_parts _ _ few.1 in
-        let own = and_parts (lawful_node number.node) _ many.1 in
-        let their = and_parts _ (apart number.node numbers) own.1 in
+    pub started : apart number.node numbers ≡ true → Sound (new_state number numbers) (map (λ n. vlr_made.new_state n number) numbers) ws ls
+    started differ =
         record {
           fit = record { fits = refl; rise = refl };
           spelt = λ x i. absurd (subst (In x) E.0 i);
-          numbers = peers_made (risen numbers) ∙ sym (numbers_made (risen numbers));
-          differ = ap (apart number.node) (numbers_made (risen numbers)) ∙ apart_risen numbers number.node their.1;
-          each = new_each (risen numbers);
+          numbers = peers_made numbers ∙ sym (numbers_made numbers);
+          differ = ap (apart number.node) (numbers_made numbers) ∙ differ;
+          each = new_each numbers;
         }

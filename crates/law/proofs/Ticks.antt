@@ -1,6 +1,7 @@
 -- What one tick of what an SGSN keeps of its VLRs changes and sends.
-use Rattle.std.proofs.Common.{◌≡◌, ℕ, ◌+◌, ◌-◌, ◌<◌, ◌≤◌, ◌⊎◌, inl, inr, Bool, true, false, cond, ◌&&◌, not, nat_le, List, [], ◌∷◌, map, length, Some, None, Option, refl, sym, ap, ◌∙◌, subst, ⊎_elim, arith}
-use Rattle.std.proofs.lemmas.Bool.{true≢false, cases_Bool, cond-true, cond-false, cond_both, and_parts, not-true, ltb-true}
+use Rattle.std.proofs.Common.{◌≡◌, ℕ, ◌+◌, ◌-◌, ◌<◌, ◌≤◌, ◌⊎◌, inl, inr, Bool, true, false, cond, not, nat_le, List, [], ◌∷◌, map, length, Some, None, Option, refl, sym, ap, ◌∙◌, subst, ⊎_elim, arith}
+use Rattle.std.specs.List.{list_any}
+use Rattle.std.proofs.lemmas.Bool.{true≢false, cases_Bool, cond-true, cond-false, cond_both, and_parts, or_parts, not-true, ltb-true}
 use Rattle.std.proofs.lemmas.List.{length-append}
 use Rattle.std.proofs.lemmas.Option.{none-some, same_Some}
 use Rattle.elements.specs.declared.node.NodeNumber.{NodeNumber}
@@ -17,7 +18,7 @@ use Rattle.context.specs.declared.context.Context.{Context}
 use Rattle.context.specs.Answering.{is_above}
 use Rattle.context.specs.Contexts.{doubtful_at}
 use Rattle.sgsn.specs.declared.peer.Peer.{Peer}
-use Rattle.sgsn.specs.Making.{apart}
+use Rattle.sgsn.specs.Making.{all_different}
 use Rattle.sgsn.specs.Peers.{with_row, peer_sends, peers_sends, peers_ticked, doubted_by, doubted_by_all}
 use Rattle.law.specs.Sound.{peer_of, reset_in, due_in, answered_by}
 use Rattle.law.proofs.Premises.{Among}
@@ -166,30 +167,28 @@ row_says own peer last r g a = ⊎_elim
     by_repeat true e (inr z) = absurd z
     by_repeat false e z = absurd z
 
--- no other VLR has this number
-apart_none : (n : NodeNumber) (ps : List Peer) → apart n (map (λ p. p.vlr) ps) ≡ true → peer_of n ps ≡ None
-apart_none n [] a = refl
-apart_none n (p ∷ ps) a =
-    let first = and_parts (not (same_node p.vlr.node n)) (apart n (map (λ q. q.vlr) ps) && apart p.vlr.node (map (λ q. q.vlr) ps)) a in
-    let rest = and_parts (apart n (map (λ q. q.vlr) ps)) (apart p.vlr.node (map (λ q. q.vlr) ps)) first.1 in
-    cond-false (same_node p.vlr.node n) (Some p) (peer_of n ps) (not-true (same_node p.vlr.node n) first.0) ∙ apart_none n ps rest.0
+-- where none has this number, no VLR is found
+unnamed : (n : NodeNumber) (ps : List Peer) → list_any (λ v. same_node v.node n) (map (λ p. p.vlr) ps) ≡ false → peer_of n ps ≡ None
+unnamed n [] a = refl
+unnamed n (p ∷ ps) a =
+    let q = or_parts (same_node p.vlr.node n) _ a in
+    cond-false (same_node p.vlr.node n) (Some p) (peer_of n ps) q.0 ∙ unnamed n ps q.1
 
 -- what goes to a VLR says what the row of that VLR has it say
-pub rows_say : (own n k : NodeNumber) (last : ℕ) (ps : List Peer) (g : Frame) → apart k (map (λ p. p.vlr) ps) ≡ true → Among g (frames_of own last (peers_sends own ps)) → g.destination ≡ n
+pub rows_say : (own n : NodeNumber) (last : ℕ) (ps : List Peer) (g : Frame) → all_different (map (λ p. p.vlr) ps) ≡ true → Among g (frames_of own last (peers_sends own ps)) → g.destination ≡ n
     → (p : Peer) × (peer_of n ps ≡ Some p) × Says own p.row g
-rows_say own n k last [] g a z to = absurd z
-rows_say own n k last (p ∷ ps) g a z to =
-    let first = and_parts (not (same_node p.vlr.node k)) (apart k (map (λ q. q.vlr) ps) && apart p.vlr.node (map (λ q. q.vlr) ps)) a in
-    let rest = and_parts (apart k (map (λ q. q.vlr) ps)) (apart p.vlr.node (map (λ q. q.vlr) ps)) first.1 in
+rows_say own n last [] g a z to = absurd z
+rows_say own n last (p ∷ ps) g a z to =
+    let parts = and_parts (not (list_any (λ v. same_node v.node p.vlr.node) (map (λ q. q.vlr) ps))) (all_different (map (λ q. q.vlr) ps)) a in
     ⊎_elim
     (λ h. let s = row_says own p.vlr.node last p.row g h in
     (p, cond-true (same_node p.vlr.node n) (Some p) (peer_of n ps) (ap (λ y. same_node y n) (sym s.0 ∙ to) ∙ own_node n), s.1))
-    (λ h. let s = rows_say own n p.vlr.node (last + length (peer_sends own p)) ps g rest.1 h to in
-    (s.0, cond-false (same_node p.vlr.node n) (Some p) (peer_of n ps) (other s.0 rest.1 s.1) ∙ s.1, s.2))
+    (λ h. let s = rows_say own n (last + length (peer_sends own p)) ps g parts.1 h to in
+    (s.0, cond-false (same_node p.vlr.node n) (Some p) (peer_of n ps) (other s.0 (not-true _ parts.0) s.1) ∙ s.1, s.2))
     (among_either own last (peer_sends own p) (peers_sends own ps) g z)
   where
-    other : (q : Peer) → apart p.vlr.node (map (λ y. y.vlr) ps) ≡ true → peer_of n ps ≡ Some q → same_node p.vlr.node n ≡ false
+    other : (q : Peer) → list_any (λ v. same_node v.node p.vlr.node) (map (λ y. y.vlr) ps) ≡ false → peer_of n ps ≡ Some q → same_node p.vlr.node n ≡ false
     other q b e = ⊎_elim
-        (λ t. absurd (none-some q (sym (apart_none p.vlr.node ps b) ∙ ap (λ y. peer_of y ps) (same_node_lem p.vlr.node n t) ∙ e)))
+        (λ t. absurd (none-some q (sym (unnamed p.vlr.node ps b) ∙ ap (λ y. peer_of y ps) (same_node_lem p.vlr.node n t) ∙ e)))
         (λ f. f)
         (cases_Bool (same_node p.vlr.node n))

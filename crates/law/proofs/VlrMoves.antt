@@ -1,18 +1,19 @@
 -- Each move of a VLR shows what it must.
-use Rattle.std.proofs.Common.{◌≡◌, ℕ, ◌+◌, ◌⊎◌, inl, inr, ⊎_elim, Bool, true, false, not, cond, ◌&&◌, ◌==◌, List, [], ◌∷◌, ◌++◌, length, is_some, Some, None, Option, refl, sym, ap, ◌∙◌, subst, arith}
+use Rattle.std.proofs.Common.{◌≡◌, ℕ, ◌+◌, ◌⊎◌, inl, inr, ⊎_elim, Bool, true, false, not, cond, ◌&&◌, List, [], ◌∷◌, ◌++◌, length, is_some, Some, None, Option, refl, sym, ap, ◌∙◌, subst, arith}
 use Rattle.std.specs.List.{list_all}
 use Rattle.std.proofs.lemmas.Bool.{true≢false, false≢true, not-true, and_parts, cases_Bool, cond-true, cond-false, eqb-true}
+use Rattle.std.proofs.lemmas.Bool.Decides.{nat_tests}
 use Rattle.std.proofs.lemmas.Option.{none-some, same_Some}
 use Rattle.imsi.specs.declared.Imsi.{Imsi}
 use Rattle.elements.specs.declared.area.LocationArea.{LocationArea}
 use Rattle.elements.specs.declared.code.ImsiDetachType.{ImsiDetachType}
-use Rattle.elements.specs.declared.code.ImsiDetachType.TheVariants.{Unacknowledged, Acknowledged}
-use Rattle.elements.specs.declared.code.RejectCause.{RejectCause}
+use Rattle.elements.specs.declared.code.UpdateType.{UpdateType}
+use Rattle.elements.specs.declared.code.Class.{Class}
 use Rattle.elements.specs.declared.node.NodeNumber.{NodeNumber}
 use Rattle.elements.specs.declared.node.SgsnNumber.{SgsnNumber}
 use Rattle.elements.specs.Nodes.{same_node}
 use Rattle.messages.specs.declared.message.Message.{Message}
-use Rattle.messages.specs.declared.message.Message.TheVariants.{Paging, PagingFailure, MobileStatus, LuRequest, LuAccept, LuReject, Reset, ResetAcknowledge, GprsDetachIndication, GprsDetachAcknowledge, ImsiDetachIndication, ImsiDetachAcknowledge}
+use Rattle.messages.specs.declared.message.Message.TheVariants.{LuRequest, ResetAcknowledge, GprsDetachIndication, ImsiDetachIndication}
 use Rattle.frames.specs.declared.frame.Frame.{Frame}
 use Rattle.carrier.specs.Nodes.{same_node_lem}
 use Rattle.carrier.specs.Order.{Stamps}
@@ -26,68 +27,27 @@ use Rattle.station.specs.Ticks as tick
 use Rattle.sgsn.specs.State as sgsn
 use Rattle.vlr.specs.State as vlr
 use Rattle.vlr.specs.declared.record.Record.{Record}
-use Rattle.vlr.specs.Records.{confirmed, unmarked}
-use Rattle.vlr.specs.Moves.{moved, answer_to, cause_for, update_answer, detach_answer}
-use Rattle.vlr.specs.Delivering.{noted, changed, answering, answers_to, records_after, row_after, taken, moved_by_frame, sends_by_frame}
+use Rattle.vlr.specs.Moves.{answer_to, cause_for, update_answer, detach_answer}
+use Rattle.vlr.specs.Delivering.{noted, answering, answers_to, row_after, taken, moved_by_frame, sends_by_frame}
 use Rattle.vlr.specs.Enrolling.{enrolled}
 use Rattle.vlr.specs.Paging.{paged, paging}
 use Rattle.vlr.specs.Recovering.{lost, resets, ticked, tick_sends}
-use Rattle.vlr.proofs.Enrolls.{its_own}
+use Rattle.vlr.specs.Laws.{record_at, by_message}
+use Rattle.vlr.proofs.ByMobile.{enrolled-at, taken-at}
 use Rattle.directory.specs.Lookup.{at, stored}
 use Rattle.directory.specs.Order.{same}
-use Rattle.directory.proofs.Lookups.{at-stored, at-whose, same_true}
-use Rattle.law.specs.Tables.{mark_of, marked_by}
+use Rattle.directory.proofs.Lookups.{same_true}
+use Rattle.law.specs.Tables.{mark_of}
 use Rattle.law.specs.Sound.{Live, harms, is_acknowledgement, accepts, Pair}
 use Rattle.law.proofs.Premises.{Among, Given, Sends, Ended, Harmed, VlrMove, VlrRestart}
 use Rattle.law.proofs.Sendings.{among_stamps, among_all, given_later, given_live}
 
-mark_cond : (b : Bool) (r : Record) (o : Option Record) → mark_of (cond b (Some r) o) ≡ cond b r.mark (mark_of o)
-mark_cond true r o = refl
-mark_cond false r o = refl
-
--- a store changes its mobile's mark alone
-stored_mark : (i : Imsi) (r : Record) (xs : List Record) (m : Imsi) → vlr.whose r ≡ i → mark_of (at vlr.whose (stored vlr.whose r xs) m) ≡ cond (same m i) r.mark (mark_of (at vlr.whose xs m))
-stored_mark i r xs m own =
-    ap mark_of (at-stored vlr.whose r xs m)
-    ∙ (λ t. mark_of (cond (same m (own t)) (Some r) (at vlr.whose xs m)))
-    ∙ mark_cond (same m i) r (at vlr.whose xs m)
-
--- and not even that where the record has the mark that its mobile had
-stored_keeps : (i : Imsi) (r : Record) (xs : List Record) (m : Imsi) → vlr.whose r ≡ i → (same m i ≡ true → r.mark ≡ mark_of (at vlr.whose xs i)) → mark_of (at vlr.whose (stored vlr.whose r xs) m) ≡ mark_of (at vlr.whose xs m)
-stored_keeps i r xs m own keeps = stored_mark i r xs m own ∙ by_mobile (same m i) refl
-  where
-    by_mobile : (b : Bool) → same m i ≡ b → cond (same m i) r.mark (mark_of (at vlr.whose xs m)) ≡ mark_of (at vlr.whose xs m)
-    by_mobile true e = cond-true (same m i) _ _ e ∙ keeps e ∙ ap (λ x. mark_of (at vlr.whose xs x)) (sym (same_true m i e))
-    by_mobile false e = cond-false (same m i) _ _ e
-
-enrolled_mark : (i : Imsi) (c : ℕ) (o : Option Record) → (enrolled i c o).mark ≡ mark_of o
-enrolled_mark i c None = refl
-enrolled_mark i c (Some r) = refl
-
--- a message about mobile i leaves the mark of m, if it leaves that of i where they are the same
-changed_keeps : (v : vlr.State) (k : Message) (i m : Imsi) (o : Option Record) → at vlr.whose v.records i ≡ o → ((r : Record) → vlr.whose (moved v.sgsn k r) ≡ vlr.whose r) → (same m i ≡ true → (r : Record) → (moved v.sgsn k r).mark ≡ r.mark) → mark_of (at vlr.whose (changed v k o) m) ≡ marked_by v m
-changed_keeps v k i m None e own keeps = refl
-changed_keeps v k i m (Some r) e own keeps =
-    stored_keeps i (moved v.sgsn k r) v.records m (own r ∙ at-whose vlr.whose v.records i r e) (λ t. keeps t r ∙ ap mark_of (sym e))
-
-update_whose : (n : SgsnNumber) (r : Record) (b : Bool) → vlr.whose (cond b (confirmed r n) (unmarked r)) ≡ vlr.whose r
-update_whose n r true = refl
-update_whose n r false = refl
+enrolled_mark : (i : Imsi) (c : ℕ) (b : Bool) (o : Option Record) → mark_of (cond b (Some (enrolled i c o)) o) ≡ mark_of o
+enrolled_mark i c b o = grind (arith, nat_tests)
 
 -- a message that does not harm a mobile leaves its mark
-unharmed : (v : vlr.State) (k : Message) (m : Imsi) → harms m k ≡ false → mark_of (at vlr.whose (records_after v k) m) ≡ marked_by v m
-unharmed v (Reset e) m h = absurd (true≢false h)
-unharmed v (ResetAcknowledge e) m h = refl
-unharmed v (LuRequest i u o a c) m h = changed_keeps v (LuRequest i u o a c) i m (at vlr.whose v.records i) refl (λ r. update_whose v.sgsn r (r.home_cause == 0)) (λ t. absurd (true≢false (sym t ∙ h)))
-unharmed v (GprsDetachIndication i t) m h = changed_keeps v (GprsDetachIndication i t) i m (at vlr.whose v.records i) refl (λ r. refl) (λ t. absurd (true≢false (sym t ∙ h)))
-unharmed v (ImsiDetachIndication i t) m h = changed_keeps v (ImsiDetachIndication i t) i m (at vlr.whose v.records i) refl (λ r. refl) (λ t. absurd (true≢false (sym t ∙ h)))
-unharmed v (PagingFailure i c) m h = changed_keeps v (PagingFailure i c) i m (at vlr.whose v.records i) refl (λ r. refl) (λ t. absurd (true≢false (sym t ∙ h)))
-unharmed v (MobileStatus i c) m h = changed_keeps v (MobileStatus i c) i m (at vlr.whose v.records i) refl (λ r. refl) (λ t. absurd (true≢false (sym t ∙ h)))
-unharmed v (Paging i t c) m h = changed_keeps v (Paging i t c) i m (at vlr.whose v.records i) refl (λ r. refl) (λ t r. refl)
-unharmed v (LuAccept i a) m h = changed_keeps v (LuAccept i a) i m (at vlr.whose v.records i) refl (λ r. refl) (λ t r. refl)
-unharmed v (LuReject i c) m h = changed_keeps v (LuReject i c) i m (at vlr.whose v.records i) refl (λ r. refl) (λ t r. refl)
-unharmed v (GprsDetachAcknowledge i t) m h = changed_keeps v (GprsDetachAcknowledge i t) i m (at vlr.whose v.records i) refl (λ r. refl) (λ t r. refl)
-unharmed v (ImsiDetachAcknowledge i t) m h = changed_keeps v (ImsiDetachAcknowledge i t) i m (at vlr.whose v.records i) refl (λ r. refl) (λ t r. refl)
+unharmed : (n : SgsnNumber) (k : Message) (m : Imsi) (o : Option Record) → harms m k ≡ false → mark_of (by_message n k m o) ≡ mark_of o
+unharmed n k m o h = grind (arith, nat_tests)
 
 -- what is sent as an answer
 answer_frame : (own : NodeNumber) (last : ℕ) (n : NodeNumber) (stamp : ℕ) (o : Option Message) (g : Frame) → Among g (frames_of own last (answering n stamp o)) → (o ≡ Some g.message) × (g.answers ≡ stamp)
@@ -96,23 +56,21 @@ answer_frame own last n stamp (Some k) g (inl e) = (ap (λ x. Some x.message) (s
 answer_frame own last n stamp (Some k) g (inr x) = absurd x
 
 -- an update that is accepted marks its mobile
-update_marks : (n : SgsnNumber) (i m : Imsi) (w : LocationArea) (d : RejectCause) (r : Record) (xs : List Record) (b : Bool) → vlr.whose r ≡ i → accepts m (cond b (LuAccept i w) (LuReject i d)) ≡ true → mark_of (at vlr.whose (stored vlr.whose (cond b (confirmed r n) (unmarked r)) xs) m) ≡ mark.Confirmed n
-update_marks n i m w d r xs true own h = stored_mark i (confirmed r n) xs m own ∙ cond-true (same m i) _ _ h
-update_marks n i m w d r xs false own h = absurd (false≢true h)
+update_same : (i m : Imsi) (w : LocationArea) (n : ℕ) → accepts m (update_answer i w n) ≡ true → same m i ≡ true
+update_same i m w n h = grind (arith, nat_tests)
 
-update_accepts : (v : vlr.State) (k : Message) (i m : Imsi) (w : LocationArea) (o : Option Record) → ((r : Record) → moved v.sgsn k r ≡ cond (r.home_cause == 0) (confirmed r v.sgsn) (unmarked r)) → at vlr.whose v.records i ≡ o → accepts m (update_answer i w (cause_for o)) ≡ true → mark_of (at vlr.whose (changed v k o) m) ≡ mark.Confirmed v.sgsn
-update_accepts v k i m w None is e h = absurd (false≢true h)
-update_accepts v k i m w (Some r) is e h =
-    ap (λ x. mark_of (at vlr.whose (stored vlr.whose x v.records) m)) (is r)
-    ∙ update_marks v.sgsn i m w (record { number = r.home_cause }) r v.records (r.home_cause == 0) (at-whose vlr.whose v.records i r e) h
+update_marks : (n : SgsnNumber) (i m : Imsi) (u : UpdateType) (w before : LocationArea) (c : Class) (o : Option Record) → accepts m (update_answer i w (cause_for o)) ≡ true → mark_of (by_message n (LuRequest i u before w c) m o) ≡ mark.Confirmed n
+update_marks n i m u w before c o h = grind (arith, nat_tests)
 
 unaccepting : (i : Imsi) (t : ImsiDetachType) (m : Imsi) (a : Message) → detach_answer i t ≡ Some a → accepts m a ≡ false
-unaccepting i Acknowledged m a e = ap (accepts m) (sym (same_Some _ _ e))
-unaccepting i Unacknowledged m a e = absurd (none-some a e)
+unaccepting i t m a e = grind (arith, nat_tests)
 
 -- a mobile that is accepted is marked
-accepted_sure : (v : vlr.State) (k : Message) (m : Imsi) (a : Message) → answer_to (noted v k) k ≡ Some a → accepts m a ≡ true → mark_of (at vlr.whose (records_after v k) m) ≡ mark.Confirmed v.sgsn
-accepted_sure v (LuRequest i u o w c) m a e h = update_accepts v (LuRequest i u o w c) i m w (at vlr.whose v.records i) (λ r. refl) refl (ap (accepts m) (same_Some _ _ e) ∙ h)
+accepted_sure : (v : vlr.State) (k : Message) (m : Imsi) (a : Message) → answer_to (noted v k) k ≡ Some a → accepts m a ≡ true → mark_of (by_message v.sgsn k m (record_at v m)) ≡ mark.Confirmed v.sgsn
+accepted_sure v (LuRequest i u o w c) m a e h =
+    let accepting : accepts m (update_answer i w (cause_for (record_at v i))) ≡ true = ap (accepts m) (same_Some _ _ e) ∙ h in
+    let its = same_true m i (update_same i m w (cause_for (record_at v i)) accepting) in
+    update_marks v.sgsn i m u w o c (record_at v m) (subst (λ x. accepts m (update_answer i w (cause_for (record_at v x))) ≡ true) (sym its) accepting)
 accepted_sure v (GprsDetachIndication i t) m a e h = absurd (true≢false (sym h ∙ ap (accepts m) (sym (same_Some _ _ e))))
 accepted_sure v (ImsiDetachIndication i t) m a e h = absurd (true≢false (sym h ∙ unaccepting i t m a e))
 accepted_sure v k m a e h = absurd (none-some a e)
@@ -154,7 +112,7 @@ module _ (s : sgsn.State) (v : vlr.State) (ws : List (List ℕ)) (ls : Stamps) (
     stamps = λ g n. absurd n;
     reset = refl;
     recovery = λ e. inl e;
-    sure = λ m h. inl (stored_keeps i (enrolled i cause (at vlr.whose v.records i)) v.records m (its_own v.records i cause) (λ t. enrolled_mark i cause (at vlr.whose v.records i)) ∙ h);
+    sure = λ m h. inl (ap mark_of (enrolled-at v i cause m) ∙ enrolled_mark i cause (same m i) (record_at v m) ∙ h);
     accepting = λ m g n k. absurd n;
   }
 
@@ -258,11 +216,11 @@ module _ (s : sgsn.State) (v : vlr.State) (ws : List (List ℕ)) (ls : Stamps) (
       stamps = λ g n. among_stamps v.own v.last (answers_to v f) g n.0;
       reset = (row_kept v.row f.stamp f.answers f.message).0;
       recovery = λ e. ⊎_elim (λ o. inl o) (λ a. inr (ended _ _ a.0 a.1)) ((row_kept v.row f.stamp f.answers f.message).1 e);
-      sure = λ m h. ⊎_elim (λ t. inr (harmed _ _ m t)) (λ t. inl (unharmed v f.message m t ∙ h)) (cases_Bool (harms m f.message));
+      sure = λ m h. ⊎_elim (λ t. inr (harmed _ _ m t)) (λ t. inl (ap mark_of (taken-at v f m) ∙ unharmed v.sgsn f.message m (record_at v m) t ∙ h)) (cases_Bool (harms m f.message));
       accepting = λ m g n k.
           let sent = answer_frame v.own v.last v.sgsn.node f.stamp (answer_to (noted v f.message) f.message) g n.0 in
           let now : ls1 s.own v.own ≡ f.stamp = ap (λ a. ls1 a v.own) (sym from) ∙ G.now in
-          (accepted_sure v f.message m g.message sent.0 k, omega (arith, sent.1), omega (arith, sent.1, P.down f from_live));
+          (ap mark_of (taken-at v f m) ∙ accepted_sure v f.message m g.message sent.0 k, omega (arith, sent.1), omega (arith, sent.1, P.down f from_live));
     }
 
   -- after a take for the VLR

@@ -1,6 +1,7 @@
 -- What stands at a whole site, and that a take and each move of an end keep it.
-use Rattle.std.proofs.Common.{◌≡◌, ℕ, ◌<◌, ◌≤◌, ◌⊎◌, inl, inr, true, not, List, [], ◌∷◌, ◌++◌, map, sym, ap, ◌∙◌, subst, ⊎_elim, arith}
-use Rattle.std.proofs.lemmas.Bool.{true≢false, not-true, and_parts}
+use Rattle.std.proofs.Common.{◌≡◌, ℕ, ◌<◌, ◌≤◌, ◌⊎◌, inl, inr, true, false, not, List, [], ◌∷◌, ◌++◌, map, sym, ap, ◌∙◌, subst, ⊎_elim, arith}
+use Rattle.std.specs.List.{list_any}
+use Rattle.std.proofs.lemmas.Bool.{true≢false, not-true, and_parts, or_parts}
 use Rattle.elements.specs.declared.node.NodeNumber.{NodeNumber}
 use Rattle.elements.specs.declared.node.VlrNumber.{VlrNumber}
 use Rattle.elements.specs.Nodes.{same_node}
@@ -8,7 +9,7 @@ use Rattle.frames.specs.declared.frame.Frame.{Frame}
 use Rattle.carrier.specs.Nodes.{own_node}
 use Rattle.carrier.specs.Order.{Stamps, Still}
 use Rattle.carrier.specs.Waiting.{Leaves}
-use Rattle.sgsn.specs.Making.{apart}
+use Rattle.sgsn.specs.Making.{all_different}
 use Rattle.sgsn.specs.State as sgsn
 use Rattle.vlr.specs.State as vlr
 use Rattle.law.specs.Sound.{Live, Pair}
@@ -17,6 +18,7 @@ use Rattle.law.proofs.Pairs.{shrunk, sgsn_moved, vlr_moved, vlr_restarted}
 use Rattle.law.proofs.Sendings.{given_later, given_live}
 use Rattle.law.proofs.Carried.{Spelt, After}
 use Rattle.law.proofs.Keeping.{Keeps, still_fit}
+use Rattle.law.proofs.Numbers.{apart}
 
 -- for each of these VLRs
 abbrev pub Each : (vlr.State → Type 0) → List vlr.State → Type 0
@@ -52,30 +54,26 @@ abbrev pub Other : NodeNumber → vlr.State → Type 0
 Other n v = v.own ≡ n → ⊥
 
 -- nodes that are not the same have different numbers
-not_same : (a b : NodeNumber) → not (same_node a b) ≡ true → a ≡ b → ⊥
-not_same a b n e = true≢false (sym (own_node b) ∙ ap (λ c. same_node c b) (sym e) ∙ not-true (same_node a b) n)
+not_same : (a b : NodeNumber) → same_node a b ≡ false → a ≡ b → ⊥
+not_same a b n e = true≢false (sym (own_node b) ∙ ap (λ c. same_node c b) (sym e) ∙ n)
 
 -- none of them has this number
 none_has : (n : NodeNumber) (vs : List vlr.State) → apart n (numbers_of vs) ≡ true → Each (Other n) vs
-none_has n [] a = tt
-none_has n (v ∷ vs) a =
-    let p = and_parts (not (same_node v.own n)) _ a in
-    let q = and_parts (apart n (numbers_of vs)) _ p.1 in
-    (not_same v.own n p.0, none_has n vs q.0)
+none_has n vs a = others vs (not-true _ (and_parts (not (list_any (λ w. same_node w.node n) (numbers_of vs))) _ a).0)
+  where
+    others : (us : List vlr.State) → list_any (λ w. same_node w.node n) (numbers_of us) ≡ false → Each (Other n) us
+    others [] e = tt
+    others (u ∷ us) e = let p = or_parts (same_node u.own n) _ e in (not_same u.own n p.0, others us p.1)
 
 -- one of them changes, and what holds of each changes otherwise for it than for the others
-one_changed : (Q R : vlr.State → Type 0) (earlier : List vlr.State) (v w : vlr.State) (later : List vlr.State) (n : NodeNumber)
-    → apart n (numbers_of (earlier ++ v ∷ later)) ≡ true → (Q v → R w) → ((u : vlr.State) → Other v.own u → Q u → R u)
+one_changed : (Q R : vlr.State → Type 0) (earlier : List vlr.State) (v w : vlr.State) (later : List vlr.State)
+    → all_different (numbers_of (earlier ++ v ∷ later)) ≡ true → (Q v → R w) → ((u : vlr.State) → Other v.own u → Q u → R u)
     → Each Q (earlier ++ v ∷ later) → Each R (earlier ++ w ∷ later)
-one_changed Q R [] v w later n a f g e =
-    let p = and_parts (not (same_node v.own n)) _ a in
-    let q = and_parts (apart n (numbers_of later)) _ p.1 in
-    (f e.0, each_map later (λ u b. g u b.0 b.1) (each_both (Other v.own) Q later (none_has v.own later q.1) e.1))
-one_changed Q R (u ∷ us) v w later n a f g e =
-    let p = and_parts (not (same_node u.own n)) _ a in
-    let q = and_parts (apart n (numbers_of (us ++ v ∷ later))) _ p.1 in
-    let other = each_at (Other u.own) us v later (none_has u.own (us ++ v ∷ later) q.1) in
-    (g u (λ t. other (sym t)) e.0, one_changed Q R us v w later n q.0 f g e.1)
+one_changed Q R [] v w later a f g e = (f e.0, each_map later (λ u b. g u b.0 b.1) (each_both (Other v.own) Q later (none_has v.own later a) e.1))
+one_changed Q R (u ∷ us) v w later a f g e =
+    let rest = and_parts (not (list_any (λ k. same_node k.node u.own) (numbers_of (us ++ v ∷ later)))) _ a in
+    let other = each_at (Other u.own) us v later (none_has u.own (us ++ v ∷ later) a) in
+    (g u (λ t. other (sym t)) e.0, one_changed Q R us v w later rest.1 f g e.1)
 
 -- a change of one that keeps its number keeps all numbers
 same_numbers : (earlier : List vlr.State) (v w : vlr.State) (later : List vlr.State) → w.own ≡ v.own → numbers_of (earlier ++ w ∷ later) ≡ numbers_of (earlier ++ v ∷ later)
@@ -83,6 +81,10 @@ same_numbers [] v w later e = (λ i. record { node = e i } ∷ numbers_of later)
 same_numbers (u ∷ us) v w later e = ap (λ ns. record { node = u.own } ∷ ns) (same_numbers us v w later e)
 
 module _ (s : sgsn.State) (vs : List vlr.State) (ws : List (List ℕ)) (ls : Stamps) (S : Sound s vs ws ls) where
+  -- no two of the SGSN's VLRs have one number
+  pub vlrs_differ : all_different (sgsn.vlrs_of s) ≡ true
+  vlrs_differ = ap all_different S.numbers ∙ (and_parts _ (all_different (numbers_of vs)) S.differ).1
+
   -- fewer frames can be given
   fewer : (ws1 : List (List ℕ)) (ls1 : Stamps) → Leaves ws ws1 → ((a b : NodeNumber) (g : Frame) → Live ws1 ls1 a b g → Live ws ls a b g) → ((a b : NodeNumber) → ls a b ≤ ls1 a b) → Sound s vs ws1 ls1
   fewer ws1 ls1 leaves live later =
@@ -140,7 +142,7 @@ module _ (s : sgsn.State) (earlier : List vlr.State) (v : vlr.State) (later : Li
         spelt = A.spelt S.spelt;
         numbers = S.numbers ∙ sym numbers;
         differ = ap (apart s.own) numbers ∙ S.differ;
-        each = one_changed (λ u. Pair s u ws ls) (λ u. Pair s u ws2 ls2) earlier v w later s.own S.differ
+        each = one_changed (λ u. Pair s u ws ls) (λ u. Pair s u ws2 ls2) earlier v w later (ap all_different (sym S.numbers) ∙ vlrs_differ s (earlier ++ v ∷ later) ws ls S)
             (λ P. ⊎_elim
             (λ M. vlr_moved s v ws ws2 ls ls2 P w (New s.own) M down up (A.still s.own v.own) (A.still v.own s.own))
             (λ M. vlr_restarted s v ws ws2 ls ls2 P w (New s.own) M down up (A.still s.own v.own) (A.still v.own s.own))

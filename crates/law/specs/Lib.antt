@@ -1,3 +1,4 @@
+pub mod Answers
 pub mod Counts
 pub mod Laws
 pub mod Sound

@@ -1,5 +1,5 @@
 -- One call at a site, and successions of calls from a new one.
-use Rattle.std.specs.Prelude.{◌≡◌, ℕ, Bool, true, false, List, [], ◌∷◌, ◌++◌, map, Ok, Err, Option, Result}
+use Rattle.std.specs.Prelude.{◌≡◌, ℕ, Bool, true, false, List, [], ◌∷◌, ◌++◌, map, Option, Result}
 use Rattle.std.specs.List.{list_any}
 use Rattle.imsi.specs.declared.Imsi.{Imsi}
 use Rattle.elements.specs.declared.node.NodeNumber.{NodeNumber}
@@ -10,10 +10,8 @@ use Rattle.carrier.specs.Order.{Stamps, Empty}
 use Rattle.station.specs.declared.denial.Denial.{Denial}
 use Rattle.station.specs.declared.receiving.Delivery.{Delivery}
 use Rattle.station.specs.declared.receiving.Refusal.{Refusal}
-use Rattle.station.specs.declared.receiving.Refusal.TheVariants as refusal
 use Rattle.station.specs.declared.sending.Outgoing.{Outgoing}
 use Rattle.station.specs.Calls.{Decided, Called}
-use Rattle.context.specs.declared.errand.Verdict.{Verdict}
 use Rattle.sgsn.specs.State as sgsn
 use Rattle.sgsn.specs.Making as sgsn_made
 use Rattle.sgsn.specs.Enrolling as sgsn_enrol
@@ -33,24 +31,8 @@ use Rattle.law.specs.declared.call.Call.{Call}
 use Rattle.law.specs.declared.call.Call.TheVariants as call
 use Rattle.law.specs.declared.call.Answer.{Answer}
 use Rattle.law.specs.declared.call.Answer.TheVariants as answer
+use Rattle.law.specs.Answers.{called, settled, delivered}
 use Rattle.law.specs.Tables.{View}
-
--- what a call is answered
-abbrev pub called : Result Unit Denial → Answer
-called (Ok u) = answer.Done
-called (Err d) = answer.Denied d
-
-abbrev pub settled : Result Verdict Denial → Answer
-settled (Ok v) = answer.Verdict v
-settled (Err d) = answer.Denied d
-
-abbrev pub refused : Refusal → Answer
-refused (refusal.Denied d) = answer.Denied d
-refused (refusal.Faulty f) = answer.Faulty f
-
-abbrev pub delivered : Result Delivery Refusal → Answer
-delivered (Ok d) = answer.Delivered d
-delivered (Err r) = refused r
 
 -- the node is one of these VLRs
 abbrev pub is_vlr : NodeNumber → List vlr.State → Bool
@@ -144,13 +126,15 @@ module _ {C : Type 0} (takes : C → NodeNumber → Option (List ℕ) → C → 
   Step (call.Deliver n) a x y = AtNode (is_sgsn n x) SgsnDelivers n VlrDelivers a x y
   Step (call.Tick n) a x y = AtNode (is_sgsn n x) (λ b z. SgsnCalls (sgsn_recover.worn_denial z.sgsn) (sgsn_recover.ticked z.sgsn) (sgsn_recover.tick_sends z.sgsn) b z) n (λ b v. VlrCalls (vlr_call.worn_denial v) (vlr_recover.ticked v) (vlr_recover.tick_sends v) b v) a x y
 
--- a new SGSN, the VLRs that it was made with, each made for it, and an empty carrier
+-- a new SGSN, the VLRs that it was made with, each made for it, in rising number, and an empty carrier
 pub record New {C : Type 0} (waiting : C → List (List ℕ)) (latest : C → Stamps) (x : View C) : Type 0 where
   pub number : SgsnNumber
+  pub given : List VlrNumber
   pub numbers : List VlrNumber
-  pub lawful : sgsn_made.lawful_numbers number numbers ≡ true
+  pub lawful : sgsn_made.lawful_numbers number given ≡ true
+  pub risen : sgsn_made.Risen given numbers
   pub sgsn : x.sgsn ≡ sgsn_made.new_state number numbers
-  pub vlrs : x.vlrs ≡ map (λ n. vlr_made.new_state n number) (sgsn_made.risen numbers)
+  pub vlrs : x.vlrs ≡ map (λ n. vlr_made.new_state n number) numbers
   pub empty : Empty (waiting x.carrier) (latest x.carrier)
 
 -- calls with their answers, the last one first

@@ -1,11 +1,14 @@
 // Calls as plain values, and what they are answered.
+ghost use Rattle.std.specs.Prelude.{◌≡◌};
+ghost use Rattle.law.specs.Answers.{called, settled, delivered};
+
 use context::errand::Verdict;
 use context::kind::Request;
 use elements::fault::Fault;
 use elements::node::{NodeNumber, VlrNumber};
 use imsi::Imsi;
 use station::denial::Denial;
-use station::receiving::Delivery;
+use station::receiving::{Delivery, Refusal};
 
 // Numbers and codes are as they come from outside: the ends refuse what is none.
 #[derive(Clone, Copy, Debug, PartialEq, Eq)]
@@ -66,4 +69,37 @@ pub enum Answer {
     Denied(Denial),
     // no such node is here
     NoSuchNode,
+}
+
+impl Answer {
+    // To a call that has no more to tell than that it was made.
+    pub fn called(made: Result<(), Denial>) -> Answer
+        ensures { result ≡ called made }
+    {
+        match made {
+            Ok(()) => Answer::Done,
+            Err(denial) => Answer::Denied(denial),
+        }
+    }
+
+    // To the settling of a reply.
+    pub fn settled(verdict: Result<Verdict, Denial>) -> Answer
+        ensures { result ≡ settled verdict }
+    {
+        match verdict {
+            Ok(verdict) => Answer::Verdict(verdict),
+            Err(denial) => Answer::Denied(denial),
+        }
+    }
+
+    // To a delivery.
+    pub fn delivered(delivery: Result<Delivery, Refusal>) -> Answer
+        ensures { result ≡ delivered delivery }
+    {
+        match delivery {
+            Ok(delivery) => Answer::Delivered(delivery),
+            Err(Refusal::Denied(denial)) => Answer::Denied(denial),
+            Err(Refusal::Faulty(fault)) => Answer::Faulty(fault),
+        }
+    }
 }

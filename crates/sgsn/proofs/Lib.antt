@@ -1,1 +1,11 @@
+pub mod Delivers
 pub mod Fits
+pub mod Keeps
+pub mod Kept
+pub mod Loops
+pub mod Makes
+pub mod Places
+pub mod Senders
+pub mod Stamps
+pub mod Ticks
+pub mod Turns

@@ -1,5 +1,6 @@
 -- What a frame does at an SGSN.
 use Rattle.std.specs.Prelude.{ℕ, Bool, true, cond, List, [], map, Some, None, Option, Result}
+use Rattle.imsi.specs.declared.Imsi.{Imsi}
 use Rattle.elements.specs.declared.node.NodeNumber.{NodeNumber}
 use Rattle.frames.specs.declared.frame.Frame.{Frame}
 use Rattle.messages.specs.declared.message.Message.{Message}
@@ -8,7 +9,7 @@ use Rattle.station.specs.declared.receiving.Delivery.{Delivery}
 use Rattle.station.specs.declared.receiving.Delivery.TheVariants as delivery
 use Rattle.station.specs.declared.receiving.Refusal.{Refusal}
 use Rattle.station.specs.declared.sending.Outgoing.{Outgoing}
-use Rattle.station.specs.Receiving.{Delivered}
+use Rattle.station.specs.Receiving.{mobile_in, Delivered}
 use Rattle.station.specs.Rows.{reset_taken, acknowledged}
 use Rattle.context.specs.declared.context.Context.{Context}
 use Rattle.context.specs.Contexts.{doubtful_at}
@@ -33,6 +34,14 @@ paged_by s f p (Some r) = with_sent s (paged p.vlr r) (page_sends p.vlr f.stamp 
 abbrev pub sends_for_page : Frame → Peer → Option Context → List Outgoing
 sends_for_page f p None = []
 sends_for_page f p (Some r) = page_sends p.vlr f.stamp r
+
+-- the record of the mobile that a message is about, if there is one
+abbrev pub found : State → Option Imsi → Option Context
+found s None = None
+found s (Some i) = record_at s i
+
+abbrev pub noted : State → Message → Option Context
+noted s m = found s (mobile_in m)
 
 -- any other message may be the answer that the mobile's record waits for
 abbrev pub answered_by : State → Frame → Peer → Option Context → State

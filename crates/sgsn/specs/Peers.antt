@@ -1,6 +1,6 @@
 -- What an SGSN keeps of its VLRs: of the one that sent a frame, and of each in order.
-use Rattle.std.specs.Prelude.{ℕ, ◌+◌, Bool, cond, List, [], ◌∷◌, ◌++◌, map, length, Option}
-use Rattle.std.specs.List.{find}
+use Rattle.std.specs.Prelude.{◌≡◌, ℕ, zero, suc, ◌+◌, Bool, cond, List, [], ◌∷◌, ◌++◌, map, length, slice_get, Some, Option}
+use Rattle.std.specs.List.{find, position}
 use Rattle.elements.specs.declared.node.NodeNumber.{NodeNumber}
 use Rattle.frames.specs.declared.frame.Frame.{Frame}
 use Rattle.station.specs.declared.row.Row.{Row}
@@ -17,8 +17,18 @@ abbrev pub change_first : {X : Type 0} → (X → Bool) → (X → X) → List X
 change_first p f [] = []
 change_first p f (x ∷ xs) = cond (p x) (f x ∷ xs) (x ∷ change_first p f xs)
 
+-- the one at a place is changed so
+abbrev pub change_at : {X : Type 0} → ℕ → (X → X) → List X → List X
+change_at i f [] = []
+change_at zero f (x ∷ xs) = f x ∷ xs
+change_at (suc i) f (x ∷ xs) = x ∷ change_at i f xs
+
 abbrev pub with_row : Peer → Row → Peer
 with_row p r = record { vlr = p.vlr; row = r }
+
+-- this is kept now of the one that stands at a place
+abbrev pub row_at : ℕ → Row → List Peer → List Peer
+row_at i r ps = change_at i (λ p. with_row p r) ps
 
 abbrev pub sent_it : Frame → Peer → Bool
 sent_it f p = is_from p.vlr.node f
@@ -26,6 +36,11 @@ sent_it f p = is_from p.vlr.node f
 -- the VLR that sent the frame, if it is one of these and the frame names no other
 abbrev pub peer_from : Frame → List Peer → Option Peer
 peer_from f ps = find (sent_it f) ps
+
+-- the frame came from this VLR, which stands at this place
+pub record SentBy (f : Frame) (i : ℕ) (p : Peer) (ps : List Peer) : Type 0 where
+  pub place : position (sent_it f) ps ≡ Some i
+  pub stands : slice_get ps i ≡ Some p
 
 -- what is kept of that VLR is changed so
 abbrev pub row_changed : Frame → (Row → Row) → List Peer → List Peer

@@ -4,11 +4,13 @@ use Rattle.imsi.specs.declared.Imsi.{Imsi}
 use Rattle.elements.specs.declared.node.NodeNumber.{NodeNumber}
 use Rattle.elements.specs.declared.node.VlrNumber.{VlrNumber}
 use Rattle.directory.specs.Lookup.{at, stored}
+use Rattle.station.specs.declared.row.Row.{Row}
 use Rattle.station.specs.declared.sending.Outgoing.{Outgoing}
 use Rattle.context.specs.declared.context.Context.{Context}
 use Rattle.context.specs.Contexts.{whose}
 use Rattle.sgsn.specs.declared.peer.Peer.{Peer}
 use Rattle.sgsn.specs.declared.sgsn.Sgsn.{Sgsn}
+use Rattle.sgsn.specs.Peers.{row_at}
 
 pub record State : Type 0 where
   pub own : NodeNumber
@@ -44,3 +46,11 @@ with_context s r = with_records s (stored whose r s.records)
 -- with this record, after this was sent
 abbrev pub with_sent : State → Context → List Outgoing → State
 with_sent s r os = record { own = s.own; last = s.last + length os; peers = s.peers; records = stored whose r s.records }
+
+-- with this kept of its VLRs
+abbrev pub with_peers : State → List Peer → State
+with_peers s ps = record { own = s.own; last = s.last; peers = ps; records = s.records }
+
+-- with this kept of the VLR that stands at a place
+abbrev pub with_row_at : State → ℕ → Row → State
+with_row_at s i r = with_peers s (row_at i r s.peers)

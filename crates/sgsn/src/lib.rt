@@ -1,5 +1,11 @@
 // An SGSN: what it keeps of each mobile and of each of its VLRs, its calls, and what a frame from a VLR does.
 #![tactic(auto)]
 
+pub mod delivering;
+pub mod enrolling;
+mod keeping;
+pub mod making;
 pub mod peer;
+mod peers;
+pub mod recovering;
 pub mod sgsn;

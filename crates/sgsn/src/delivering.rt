@@ -1,0 +1,138 @@
+// Taking a frame from a VLR.
+ghost use Rattle.std.specs.Prelude.{◌≡◌, ◌<◌, true, map};
+ghost use Rattle.station.specs.Sends.{HasStamps, Sent};
+ghost use Rattle.context.specs.Contexts.{doubtful_at};
+ghost use Rattle.sgsn.specs.Fitting.{is_one_of};
+ghost use Rattle.sgsn.specs.Peers.{SentBy};
+ghost use Rattle.sgsn.specs.State.{state_of, vlrs_of, record_at, with_records, with_row_at};
+ghost use Rattle.sgsn.specs.Delivering.{noted, reset_by, acknowledged_by, answered_by, paged_by, sends_for_page, can_be_paged, taken_by, sends_by, answer_by, Delivers};
+
+use crate::peer::Peer;
+use crate::peers::{place_of_sender, set_row};
+use crate::sgsn::Sgsn;
+use carrier::carrier::Carrier;
+use carrier::in_order::InOrder;
+use context::context::DoubtAt;
+use directory::table::change_each;
+use elements::node::VlrNumber;
+use frames::frame::Frame;
+use imsi::Imsi;
+use messages::message::Message;
+use station::denial::Denial;
+use station::receiving::{Delivery, Refusal, mobile_in, take_frame};
+use station::row::Row;
+
+impl Sgsn {
+    // No record says any more that this VLR is sure.
+    fn doubt_at(&mut self, vlr: VlrNumber)
+        ensures { state_of self.new ≡ with_records (state_of self.old) (map (doubtful_at vlr) (state_of self.old).records) }
+    {
+        change_each(&mut self.places, self.held, &DoubtAt { vlr });
+    }
+
+    // Keeps this of the VLR at `i`.
+    fn keep_row(&mut self, i: usize, row: Row)
+        requires { i < self.old.count }
+        ensures { state_of self.new ≡ with_row_at (state_of self.old) i row }
+    {
+        set_row(&mut self.peers, i, row);
+    }
+
+    // Takes a RESET from this VLR, the one at `i`: it is sure of no mobile, and is told later that the RESET came.
+    fn take_reset(&mut self, i: usize, peer: Peer, frame: Frame)
+        requires { SentBy frame i peer (state_of self.old).peers }
+        ensures { state_of self.new ≡ reset_by (state_of self.old) frame peer }
+    {
+        self.doubt_at(peer.vlr);
+        self.keep_row(i, peer.row.reset_taken(frame.stamp));
+    }
+
+    // Takes a RESET_ACKNOWLEDGE from this VLR, the one at `i`.
+    fn take_acknowledgement(&mut self, i: usize, peer: Peer, frame: Frame)
+        requires { SentBy frame i peer (state_of self.old).peers }
+        ensures { state_of self.new ≡ acknowledged_by (state_of self.old) frame }
+    {
+        self.keep_row(i, peer.row.acknowledged(frame.answers));
+    }
+
+    // Takes a page of a mobile from this VLR, and tells whether the radio side is to page the mobile.
+    fn take_page<C: InOrder>(
+        &mut self,
+        carrier: &mut C,
+        peer: Peer,
+        frame: Frame,
+        imsi: Imsi,
+    ) -> bool
+        requires its { is_one_of (vlrs_of (state_of self.old)) peer.vlr ≡ true }
+        requires stamps { HasStamps 1 self.old.sender }
+        ensures state { state_of self.new ≡ paged_by (state_of self.old) frame peer (record_at (state_of self.old) imsi) }
+        ensures sent { Sent C.Carrier.puts self.old.sender.own self.old.sender.last (sends_for_page frame peer (record_at (state_of self.old) imsi)) carrier.old carrier.new }
+        ensures ordered { result ≡ can_be_paged (record_at (state_of self.old) imsi) }
+    {
+        let Some(before) = self.record_of(imsi) else {
+            return true;
+        };
+        let outgoing = before.page_sends(peer.vlr, frame.stamp);
+        self.keep_and_send(carrier, before.paged(peer.vlr), outgoing);
+        before.attached
+    }
+
+    // Takes any other message from this VLR: it may be the answer that its mobile's record waits for.
+    fn take_answer(&mut self, peer: Peer, frame: Frame)
+        ensures { state_of self.new ≡ answered_by (state_of self.old) frame peer (noted (state_of self.old) frame.message) }
+    {
+        let Some(imsi) = mobile_in(frame.message) else {
+            return;
+        };
+        let Some(before) = self.record_of(imsi) else {
+            return;
+        };
+        self.keep(before.answered(peer.vlr, frame.answers, peer.row.reset, frame.message));
+    }
+
+    // Takes a frame from this VLR, the one at `i`.
+    fn take<C: InOrder>(&mut self, carrier: &mut C, i: usize, peer: Peer, frame: Frame) -> Delivery
+        requires sender { SentBy frame i peer (state_of self.old).peers }
+        requires stamps { HasStamps 1 self.old.sender }
+        ensures state { state_of self.new ≡ taken_by (state_of self.old) frame peer frame.message }
+        ensures sent { Sent C.Carrier.puts self.old.sender.own self.old.sender.last (sends_by (state_of self.old) frame peer frame.message) carrier.old carrier.new }
+        ensures answer { result ≡ answer_by (state_of self.old) frame.message }
+    {
+        match frame.message {
+            Message::Paging {
+                imsi,
+                tmsi,
+                channel,
+            } => {
+                if self.take_page(carrier, peer, frame, imsi) {
+                    return Delivery::PageOrder {
+                        imsi,
+                        tmsi,
+                        channel,
+                    };
+                }
+            }
+            Message::Reset { .. } => self.take_reset(i, peer, frame),
+            Message::ResetAcknowledge { .. } => self.take_acknowledgement(i, peer, frame),
+            _ => self.take_answer(peer, frame),
+        }
+        Delivery::Done
+    }
+
+    // Takes once from the carrier.
+    pub fn deliver<C: InOrder>(&mut self, carrier: &mut C) -> Result<Delivery, Refusal>
+        ensures { Delivers C.Carrier.takes C.Carrier.puts result (state_of self.old) carrier.old (state_of self.new) carrier.new }
+    {
+        if self.sender.is_worn() {
+            return Err(Refusal::Denied(Denial::Worn));
+        }
+        let Some(received) = take_frame(carrier, self.sender.own) else {
+            return Ok(Delivery::Nothing);
+        };
+        let frame = received?;
+        let Some(i) = place_of_sender(&self.peers[0..self.count], frame) else {
+            return Ok(Delivery::Done);
+        };
+        Ok(self.take(carrier, i, self.peers[i], frame))
+    }
+}

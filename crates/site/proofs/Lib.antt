@@ -1,0 +1,2 @@
+pub mod OneVlr
+pub mod Places
