@@ -24,7 +24,7 @@ use Rattle.law.specs.Sound.{Pair}
 use Rattle.law.specs.Laws.{vlr_named, Backs, Agreed}
 use Rattle.law.proofs.Carried.{Carries}
 use Rattle.law.proofs.Whole.{Each, numbers_of, Sound}
-use Rattle.law.proofs.Started.{not_sure}
+use Rattle.law.proofs.Quieter.{none_unsure}
 use Rattle.law.proofs.Calls as calls
 
 -- the VLR that is found has the number, and what holds of each holds of it
@@ -46,7 +46,7 @@ not_missing n (u ∷ us) its e = ⊎_elim
 module _ (s : sgsn.State) (vs : List vlr.State) (ws : List (List ℕ)) (ls : Stamps) (S : Sound s vs ws ls) (m : Imsi) (n : VlrNumber) (sure : marked s m ≡ mark.Confirmed n) where
   -- a mark names one of the SGSN's VLRs
   its_vlr : (o : Option Context) → sgsn.record_at s m ≡ o → mark_in o ≡ mark.Confirmed n → is_one_of (sgsn.vlrs_of s) n ≡ true
-  its_vlr None e c = absurd (not_sure n c)
+  its_vlr None e c = absurd (none_unsure n c)
   its_vlr (Some r) e c =
       let fit = fits_at (sgsn.vlrs_of s) s.records m r S.fit.fits e in
       let behind = and_parts (lawful_imsi r.imsi.digits r.imsi.value) _ fit in

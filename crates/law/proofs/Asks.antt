@@ -7,9 +7,7 @@ use Rattle.elements.specs.declared.code.Class.{Class}
 use Rattle.elements.specs.declared.node.VlrNumber.{VlrNumber}
 use Rattle.elements.specs.Nodes.{same_node}
 use Rattle.carrier.specs.Order.{Stamps}
-use Rattle.station.specs.declared.denial.Denial.{Denial}
 use Rattle.messages.specs.declared.message.Message.TheVariants.{LuRequest}
-use Rattle.station.specs.Calls.{unless}
 use Rattle.station.specs.Marks.{node_in}
 use Rattle.context.specs.declared.context.Context.{Context}
 use Rattle.context.specs.declared.kind.Request.{Request}
@@ -25,26 +23,15 @@ use Rattle.sgsn.specs.Detaching as detach
 use Rattle.vlr.specs.State as vlr
 use Rattle.law.specs.Sound.{reset_to}
 use Rattle.law.proofs.Premises.{Sends, SgsnMove}
+use Rattle.law.proofs.Keeping.{granted}
 use Rattle.law.proofs.Quieter.{none_unsure, unsure_unsure}
+use Rattle.law.proofs.Served.{asks_not}
 use Rattle.law.proofs.OneRecord.{still, silent, quiet, told}
 
--- a call that is not denied passed each question
-pub passed : (b : Bool) (d : Denial) (o : Option Denial) → unless b d o ≡ None → b ≡ true
-passed true d o e = refl
-passed false d o e = absurd (none-some d (sym e))
-
-pub passed_on : (b : Bool) (d : Denial) (o : Option Denial) → unless b d o ≡ None → o ≡ None
-passed_on true d o e = e
-passed_on false d o e = absurd (none-some d (sym e))
-
--- an open request asks by its stamp alone, and another errand does not ask
+-- an open request asks by its stamp alone
 asks_so : (b : Bool) (x n : ℕ) → cond b (Some x) None ≡ Some n → n ≡ x
 asks_so true x n e = sym (same_Some x n e)
 asks_so false x n e = absurd (none-some n e)
-
-pub asks_not : {X : Type 0} (b : Bool) (n : ℕ) → cond b None None ≡ Some n → X
-asks_not true n e = absurd (none-some n e)
-asks_not false n e = absurd (none-some n e)
 
 module _ (s : sgsn.State) (v : vlr.State) (ws : List (List ℕ)) (ls : Stamps) (B : (x : ℕ) → reset_to s v.own ≡ Some x → x ≤ s.last) where
   requests : (i : Imsi) (r : Context) (q : Request) (k : RequestKind) (b : Bool) (c : Option Class) → sgsn.record_at s i ≡ Some r → is_some c ≡ true
@@ -62,8 +49,8 @@ module _ (s : sgsn.State) (v : vlr.State) (ws : List (List ℕ)) (ls : Stamps) (
   requested_so i q None o e d = still s v ws ls B (Sends s.own s.last [] v.own) (λ g n. n.0)
   requested_so i q (Some k) None e d = still s v ws ls B (Sends s.own s.last [] v.own) (λ g n. n.0)
   requested_so i q (Some k) (Some r) e d =
-      let asked : record_denial s q k (Some r) ≡ None = subst (λ o. record_denial s q k o ≡ None) e (passed_on _ _ _ d) in
-      requests i r q k (context.needs_no_frame k q r) (voice_class r.class) e (passed _ _ _ asked)
+      let asked : record_denial s q k (Some r) ≡ None = subst (λ o. record_denial s q k o ≡ None) e (granted _ _ _ d).1 in
+      requests i r q k (context.needs_no_frame k q r) (voice_class r.class) e (granted _ _ _ asked).0
 
   module _ (r : Context) where
     detaches : (k : DetachKind) (o : Option VlrNumber) → SgsnMove s (sgsn.with_sent s (detached_from o k (s.last + 1) r) (detach_to o k r)) v ws ls (Sends s.own s.last (detach_to o k r) v.own)

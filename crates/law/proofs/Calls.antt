@@ -187,10 +187,10 @@ module _ {C : Type 0} (waiting : C → List (List ℕ)) (latest : C → Stamps) 
 
   -- each call
   step : (c : Call) (a : Answer) (x y : View C) → StandsAt x → Step takes puts c a x y → StandsAt y
-  step (call.Enrol i code) a x y S D = sgsn_decides x y S a _ _ (keeps_enrolled x.sgsn S.fit i code) (λ d v P. sgsn_moves.enrolled_moves x.sgsn v _ _ S.fit P i code d) D
+  step (call.Enrol i code) a x y S D = sgsn_decides x y S a _ _ (keeps_enrolled x.sgsn S.fit i code) (λ d v P. sgsn_moves.enrolled_moves x.sgsn v _ _ S.fit P i code) D
   step (call.Attach i) a x y S D = sgsn_decides x y S a _ _ (λ d. keeps_attached x.sgsn S.fit i) (λ d v P. sgsn_moves.attached_moves x.sgsn v _ _ S.fit P i) D
   step (call.Request i q) a x y S D = sgsn_calls x y S a _ _ _ (keeps_requested x.sgsn S.fit i q) (λ d v P. sgsn_moves.requested_moves x.sgsn v _ _ S.fit P i q d) D
-  step (call.Detach i code) a x y S D = sgsn_calls x y S a _ _ _ (λ d. keeps_detached x.sgsn S.fit i code) (λ d v P. sgsn_moves.detached_moves x.sgsn v _ _ S.fit P i code d) D
+  step (call.Detach i code) a x y S D = sgsn_calls x y S a _ _ _ (λ d. keeps_detached x.sgsn S.fit i code) (λ d v P. sgsn_moves.detached_moves x.sgsn v _ _ S.fit P i code) D
   step (call.Settle i) a x y S D = sgsn_settles x y S a i D
   step (call.EnrolAtVlr n i cause) a x y S D = at_vlr (is_vlr n.node x.vlrs) n.node (VlrEnrols takes puts i cause) a x y (vlr_enrols i cause a) S D
   step (call.Page n i t ch) a x y S D =

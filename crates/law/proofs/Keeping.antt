@@ -54,7 +54,7 @@ pub still_fit : (s t : State) → Keeps s t → Fit t
 still_fit s t K = record { fits = subst (λ vs. list_all (fits_in vs) t.records ≡ true) (sym K.vlrs) K.fits; rise = K.rise }
 
 -- a question was answered by yes, and those behind it too
-granted : (b : Bool) (d : Denial) (others : Option Denial) → unless b d others ≡ None → (b ≡ true) × (others ≡ None)
+pub granted : (b : Bool) (d : Denial) (others : Option Denial) → unless b d others ≡ None → (b ≡ true) × (others ≡ None)
 granted true d others e = (refl, e)
 granted false d others e = absurd (none-some d (sym e))
 
@@ -130,7 +130,13 @@ module _ (s : State) (F : Fit s) where
   keeps_settled i (Err d) = unchanged
 
   pub keeps_lost : Keeps s (lost s)
-  keeps_lost = record { own = refl; vlrs = vlrs_lost s.last s.peers; fits = fits_map (vlrs_of s) doubtful s.records (fits_doubtful (vlrs_of s)) F.fits; rise = rising_quieter s.records (map doubtful s.records) (quieter_map doubtful quieter_doubtful s.records) F.rise }
+  keeps_lost =
+      record {
+        own = refl;
+        vlrs = vlrs_lost s.last s.peers;
+        fits = fits_map (vlrs_of s) doubtful s.records (fits_doubtful (vlrs_of s)) F.fits;
+        rise = rising_quieter s.records (map doubtful s.records) (quieter_map doubtful quieter_doubtful s.records) F.rise;
+      }
 
   pub keeps_ticked : Keeps s (ticked s)
   keeps_ticked =
@@ -151,7 +157,13 @@ module _ (s : State) (F : Fit s) where
     keeps_answered_by i (Some r) e = stores (answered p.vlr f.answers p.row.reset f.message r) (fits_answered (vlrs_of s) p.vlr f.answers p.row.reset f.message r (held i r e))
 
     keeps_taken_by : (m : Message) → is_one_of (vlrs_of s) p.vlr ≡ true → Keeps s (taken_by s f p m)
-    keeps_taken_by (Reset e) its = record { own = refl; vlrs = vlrs_changed f (λ r. reset_taken r f.stamp) s.peers; fits = fits_map (vlrs_of s) (doubtful_at p.vlr) s.records (fits_doubtful_at (vlrs_of s) p.vlr) F.fits; rise = rising_quieter s.records (map (doubtful_at p.vlr) s.records) (quieter_map (doubtful_at p.vlr) (quieter_doubtful_at p.vlr) s.records) F.rise }
+    keeps_taken_by (Reset e) its =
+        record {
+          own = refl;
+          vlrs = vlrs_changed f (λ r. reset_taken r f.stamp) s.peers;
+          fits = fits_map (vlrs_of s) (doubtful_at p.vlr) s.records (fits_doubtful_at (vlrs_of s) p.vlr) F.fits;
+          rise = rising_quieter s.records (map (doubtful_at p.vlr) s.records) (quieter_map (doubtful_at p.vlr) (quieter_doubtful_at p.vlr) s.records) F.rise;
+        }
     keeps_taken_by (ResetAcknowledge e) its = record { own = refl; vlrs = vlrs_changed f (λ r. acknowledged r f.answers) s.peers; fits = F.fits; rise = F.rise }
     keeps_taken_by (Paging i t c) its = keeps_paged_by i (record_at s i) its refl
     keeps_taken_by (PagingFailure i c) its = keeps_answered_by i (record_at s i) refl

@@ -21,7 +21,10 @@ use Rattle.law.proofs.Premises.{Granted, Sends, SgsnMove}
 use Rattle.law.proofs.Quieter.{Quieter}
 
 -- the record stored is its mobile's, and any other mobile's is the one before
-pub after_store : (r : Context) (xs : List Context) (m : Imsi) → ((m ≡ whose r) × (at whose (stored whose r xs) m ≡ Some r)) ⊎ ((same m (whose r) ≡ false) × (at whose (stored whose r xs) m ≡ at whose xs m))
+abbrev AfterStore : Context → List Context → List Context → Imsi → Type 0
+AfterStore r xs ys m = ((m ≡ whose r) × (at whose ys m ≡ Some r)) ⊎ ((same m (whose r) ≡ false) × (at whose ys m ≡ at whose xs m))
+
+after_store : (r : Context) (xs : List Context) (m : Imsi) → AfterStore r xs (stored whose r xs) m
 after_store r xs m = ⊎_elim
     (λ t. inl (same_true m (whose r) t, at-stored whose r xs m ∙ cond-true (same m (whose r)) (Some r) (at whose xs m) t))
     (λ f. inr (f, at-stored whose r xs m ∙ cond-false (same m (whose r)) (Some r) (at whose xs m) f))
@@ -75,7 +78,7 @@ module _ (s t : sgsn.State) (v : vlr.State) (ws : List (List ℕ)) (ls : Stamps)
 
   pub stored_moves : (r : Context) → ((x : ℕ) → reset_to s v.own ≡ Some x → x ≤ s.last) → StoreMove r → SgsnMove s t v ws ls New
   stored_moves r B M =
-      let look : (m : Imsi) → ((m ≡ whose r) × (sgsn.record_at t m ≡ Some r)) ⊎ ((same m (whose r) ≡ false) × (sgsn.record_at t m ≡ sgsn.record_at s m)) = λ m. subst (λ xs. ((m ≡ whose r) × (at whose xs m ≡ Some r)) ⊎ ((same m (whose r) ≡ false) × (at whose xs m ≡ sgsn.record_at s m))) (sym M.records) (after_store r s.records m) in
+      let look : (m : Imsi) → AfterStore r s.records t.records m = λ m. subst (λ xs. AfterStore r s.records xs m) (sym M.records) (after_store r s.records m) in
       rows_stay B (record {
         own = M.own;
         reset = ap (λ ps. reset_in (peer_of v.own ps)) M.peers;

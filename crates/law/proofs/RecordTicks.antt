@@ -31,10 +31,9 @@ use Rattle.sgsn.specs.State.{State}
 use Rattle.law.specs.Tables.{mark_in, errand_in}
 use Rattle.law.specs.Sound.{harms, is_acknowledgement, asked_in, update_stamp}
 use Rattle.law.proofs.Premises.{Among, passes, rising}
-use Rattle.law.proofs.Asks.{asks_not}
 use Rattle.law.proofs.Quieter.{Quieter, AllQuieter, same_record, quieter_twice}
 use Rattle.law.proofs.Sendings.{among_either}
-use Rattle.law.proofs.Served.{sure_served}
+use Rattle.law.proofs.Served.{sure_served, asks_not}
 use Rattle.law.proofs.Ticks.{quieter_doubted}
 
 -- the mark of a record stays, and a tick asks nothing more

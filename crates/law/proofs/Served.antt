@@ -42,7 +42,11 @@ moving_served w r t =
     let voice = and_parts (has_voice r) (not (is_open r.errand) && not (names w r.mark)) there.1 in
     (there.0, not_so (is_open r.errand) (and_parts (not (is_open r.errand)) (not (names w r.mark)) voice.1).0)
 
--- what asks is open
+-- an open detach asks nothing, and what asks is open
+pub asks_not : {X : Type 0} (b : Bool) (n : ℕ) → cond b None None ≡ Some n → X
+asks_not true n e = absurd (none-some n e)
+asks_not false n e = absurd (none-some n e)
+
 pub asks_open : (a : NodeNumber) (e : Errand) (n : ℕ) → asked_in a e ≡ Some n → is_open e ≡ true
 asks_open a errand.Idle n h = absurd (none-some n h)
 asks_open a (errand.Open o) n h = refl
@@ -54,10 +58,8 @@ asking_served vs r a n f h = by_errand r.errand h (and_parts (sound_mark r.mark 
   where
     by_awaited : (o : Open) (w : Awaited) (b : Bool) → cond b (update_stamp o w) None ≡ Some n → sound_awaited w r ≡ true → r.attached ≡ true
     by_awaited o (Update l) b k t = (and_parts r.attached (has_voice r) t).0
-    by_awaited o (GprsDetach t x) true k e = absurd (none-some n k)
-    by_awaited o (GprsDetach t x) false k e = absurd (none-some n k)
-    by_awaited o (ImsiDetach x) true k e = absurd (none-some n k)
-    by_awaited o (ImsiDetach x) false k e = absurd (none-some n k)
+    by_awaited o (GprsDetach t x) b k e = asks_not b n k
+    by_awaited o (ImsiDetach x) b k e = asks_not b n k
 
     by_errand : (e : Errand) → asked_in a e ≡ Some n → sound_errand e r ≡ true → r.attached ≡ true
     by_errand errand.Idle k t = absurd (none-some n k)

@@ -25,25 +25,26 @@ use Rattle.sgsn.specs.declared.peer.Peer.{Peer}
 use Rattle.sgsn.specs.Making.{all_different}
 use Rattle.sgsn.specs.Peers.{peer_from, peers_sends}
 use Rattle.sgsn.specs.Requesting.{request_denial, requested, request_sends}
-use Rattle.sgsn.specs.Detaching.{detach_denial, detached, detach_sends}
+use Rattle.sgsn.specs.Detaching.{detached, detach_sends}
 use Rattle.sgsn.specs.Settling.{settling, after_settling, settled_as, settled_errand}
 use Rattle.sgsn.specs.Delivering.{moved_by_frame, sends_by_frame}
 use Rattle.sgsn.specs.Recovering.{lost, resets, records_ticked, records_sends, last_between, ticked, tick_sends}
 use Rattle.vlr.specs.State as vlr
 use Rattle.law.specs.Sound.{Pair, Sure, harms, is_acknowledgement, asked, peer_of, reset_in, due_in}
 use Rattle.law.proofs.Premises.{Among, Fit, Given, Sends, SgsnMove}
+use Rattle.law.proofs.Keeping.{granted}
 use Rattle.law.proofs.Losses.{lost_above, lost_before, lost_due, lost_none, lost_other}
 use Rattle.law.proofs.Quieter.{none_unsure, same_record, quieter_doubtful, quieter_map, FoundQuieter, found_quieter, unsure_map, found_unsure, doubtful_nowhere}
 use Rattle.law.proofs.Sendings.{among_stamps, among_either}
 use Rattle.law.proofs.OneRecord.{still, silent, quiet}
-use Rattle.law.proofs.Asks.{passed_on, requested_so, detached_so}
+use Rattle.law.proofs.Asks.{requested_so, detached_so}
 use Rattle.law.proofs.RecordTicks.{quieter_all_ticked, records_other, Free, records_free}
 use Rattle.law.proofs.Taken.{taken_by_frame}
 use Rattle.law.proofs.Ticks.{ticked_above, ticked_repeat, ticked_before, ticked_due, doubted_there, Says, rows_say}
 
 module _ (s : sgsn.State) (v : vlr.State) (ws : List (List ℕ)) (ls : Stamps) (F : Fit s) (P : Pair s v ws ls) where
-  pub enrolled_moves : (i : Imsi) (code : ℕ) → enrol.enrol_denial s i code ≡ None → SgsnMove s (enrol.enrolled s i code) v ws ls (λ g. ⊥)
-  enrolled_moves i code d = enrolled_so (class_in code)
+  pub enrolled_moves : (i : Imsi) (code : ℕ) → SgsnMove s (enrol.enrolled s i code) v ws ls (λ g. ⊥)
+  enrolled_moves i code = enrolled_so (class_in code)
     where
       enrolled_so : (o : Option ServiceClass) → SgsnMove s (enrol.enrolled_as s i o) v ws ls (λ g. ⊥)
       enrolled_so None = still s v ws ls P.reset_before (λ g. ⊥) (λ g n. n)
@@ -60,10 +61,10 @@ module _ (s : sgsn.State) (v : vlr.State) (ws : List (List ℕ)) (ls : Stamps) (
           quiet s v ws ls P.reset_before (λ g. ⊥) (λ g n. n) (sgsn.with_context s (attached_now r)) refl refl (omega arith) i r (attached_now r) e refl (record { mobile = refl; sure = λ n h. h; asking = λ a n h. h })
 
   pub requested_moves : (i : Imsi) (q : Request) → request_denial s i q ≡ None → SgsnMove s (requested s i q) v ws ls (Sends s.own s.last (request_sends s i q) v.own)
-  requested_moves i q d = requested_so s v ws ls P.reset_before i q (request_kind_in q.kind) (sgsn.record_at s i) refl (passed_on _ _ _ d)
+  requested_moves i q d = requested_so s v ws ls P.reset_before i q (request_kind_in q.kind) (sgsn.record_at s i) refl (granted _ _ _ d).1
 
-  pub detached_moves : (i : Imsi) (code : ℕ) → detach_denial s i code ≡ None → SgsnMove s (detached s i code) v ws ls (Sends s.own s.last (detach_sends s i code) v.own)
-  detached_moves i code d = detached_so s v ws ls P.reset_before (detach_kind_in code) (sgsn.record_at s i)
+  pub detached_moves : (i : Imsi) (code : ℕ) → SgsnMove s (detached s i code) v ws ls (Sends s.own s.last (detach_sends s i code) v.own)
+  detached_moves i code = detached_so s v ws ls P.reset_before (detach_kind_in code) (sgsn.record_at s i)
 
   pub settled_moves : (i : Imsi) → SgsnMove s (after_settling s i (settling s i)) v ws ls (λ g. ⊥)
   settled_moves i = settled_so (settling s i)

@@ -1,5 +1,5 @@
 -- What should stand at a whole site stands at a new one.
-use Rattle.std.proofs.Common.{◌≡◌, ℕ, Bool, true, List, [], ◌∷◌, map, find, Some, None, sym, refl, ap, ◌∙◌, subst, arith}
+use Rattle.std.proofs.Common.{◌≡◌, ℕ, Bool, true, List, [], ◌∷◌, map, find, Some, None, sym, refl, ap, ◌∙◌, subst}
 use Rattle.std.proofs.lemmas.Bool.{cond_both}
 use Rattle.std.proofs.lemmas.Option.{none-some}
 use Rattle.elements.specs.declared.node.NodeNumber.{NodeNumber}
@@ -10,18 +10,13 @@ use Rattle.frames.specs.declared.frame.Frame.{Frame}
 use Rattle.frames.specs.Format.{frame_octets}
 use Rattle.carrier.specs.Order.{Stamps, Empty}
 use Rattle.carrier.specs.Waiting.{In}
-use Rattle.station.specs.declared.mark.Mark.{Mark}
-use Rattle.station.specs.declared.mark.Mark.TheVariants as mark
 use Rattle.sgsn.specs.declared.peer.Peer.{Peer}
 use Rattle.sgsn.specs.Making.{new_peer, new_state}
 use Rattle.vlr.specs.Making as vlr_made
 use Rattle.law.specs.Sound.{Live, Pair, reset_in, due_in, due_to}
 use Rattle.law.proofs.Numbers.{apart}
+use Rattle.law.proofs.Quieter.{none_unsure}
 use Rattle.law.proofs.Whole.{Each, numbers_of, Sound}
-
--- to be marked None is not to be sure
-pub not_sure : {N : Type 0} (n : N) → ◌≡◌ {A = Mark N} mark.None (mark.Confirmed n) → ⊥
-not_sure n e = let z : ◌≡◌ {A = ℕ} 0 1 = cc in omega arith
 
 -- the numbers are those that the site was made with
 peers_made : (ks : List VlrNumber) → map (λ p. p.vlr) (map new_peer ks) ≡ ks
@@ -53,13 +48,13 @@ module _ (number : SgsnNumber) where
         let not_due : (x : ℕ) → due_to s k.node ≡ Some x → ⊥ = λ x e. none-some x (sym (none_due (λ p. same_node p.vlr.node k.node) numbers) ∙ e) in
         record {
           its = refl;
-          quiet = λ e m h. absurd (not_sure _ h);
+          quiet = λ e m h. absurd (none_unsure _ h);
           due = λ x d. absurd (not_due x d);
           acknowledged = λ f l. absurd (nothing _ _ f l);
           heard = λ e x r. absurd (none-some x r);
           heard_due = λ x d. absurd (not_due x d);
           heard_acknowledged = λ f l. absurd (nothing _ _ f l);
-          clear = λ m h. absurd (not_sure _ h);
+          clear = λ m h. absurd (none_unsure _ h);
           granted = λ m r a. absurd (none-some r a);
           pending = λ m r a. absurd (none-some r a);
           known = λ m f l. absurd (nothing _ _ f l);
