@@ -1,3 +1,4 @@
+pub mod ByHand
 pub mod Makes
 pub mod OneVlr
 pub mod Places

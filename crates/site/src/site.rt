@@ -18,9 +18,9 @@ use vlr::vlr::Vlr;
 // The VLRs are those that the SGSN was made with, each made for it, in rising number.
 #[derive(Drop)]
 pub struct Site<C> {
-    pub sgsn: Sgsn,
-    pub vlrs: Vec<Vlr>,
-    pub carrier: C,
+    pub(crate) sgsn: Sgsn,
+    pub(crate) vlrs: Vec<Vlr>,
+    pub(crate) carrier: C,
 }
 
 impl<C: InOrder> Site<C> {
@@ -66,6 +66,27 @@ impl<C: InOrder> Site<C> {
         } else {
             self.at_vlr(node, VlrCall::Tick)
         }
+    }
+
+    // The SGSN, to be read: its table is what planners are given.
+    pub fn sgsn(&self) -> &Sgsn
+        ensures { result.now ≡ self.now.sgsn }
+    {
+        &self.sgsn
+    }
+
+    // The VLRs, in rising number.
+    pub fn vlrs(&self) -> &[Vlr]
+        ensures { result.now ≡ self.now.vlrs.items }
+    {
+        &self.vlrs
+    }
+
+    // What carries the frames.
+    pub fn carrier(&self) -> &C
+        ensures { result.now ≡ self.now.carrier }
+    {
+        &self.carrier
     }
 
     // One call, whichever it is.
