@@ -29,16 +29,19 @@ accepted o a reset r = record { imsi = r.imsi; class = r.class; attached = r.att
 abbrev pub let_go : Bool → Verdict → Context → Context
 let_go stays v r = record { imsi = r.imsi; class = r.class; attached = stays; mark = mark.None; area = r.area; errand = errand.Ended v }
 
+-- only a location update is accepted
 abbrev pub on_accept : Open → Awaited → Option ℕ → Context → Context
 on_accept o (Update a) reset r = accepted o a reset r
 on_accept o (GprsDetach t n) reset r = r
 on_accept o (ImsiDetach s) reset r = r
 
+-- only a location update is rejected: the mobile keeps packet service or lacks it, as before
 abbrev pub on_reject : RejectCause → Awaited → Context → Context
 on_reject c (Update a) r = let_go r.attached (verdict.Rejected c) r
 on_reject c (GprsDetach t n) r = r
 on_reject c (ImsiDetach s) r = r
 
+-- the end of packet service is acknowledged
 abbrev pub on_gprs_acknowledge : Awaited → Context → Context
 on_gprs_acknowledge (Update a) r = r
 on_gprs_acknowledge (GprsDetach t n) r = let_go false verdict.Done r
@@ -69,6 +72,7 @@ matched o reset (ImsiDetachIndication i t) r = r
 abbrev pub is_answer : Open → VlrNumber → ℕ → Bool
 is_answer o v n = same_node o.vlr.node v.node && o.stamp == n
 
+-- only what is open can be answered
 abbrev pub answered_errand : Errand → VlrNumber → ℕ → Option ℕ → Message → Context → Context
 answered_errand errand.Idle v n reset m r = r
 answered_errand (errand.Open o) v n reset m r = cond (is_answer o v n) (matched o reset m r) r

@@ -15,12 +15,15 @@ use Rattle.context.specs.declared.kind.DetachKind.TheVariants as detach
 abbrev pub third_of : {X : Type 0} → X → X → X → ℕ → Option X
 third_of a b c n = cond (n == 1) (Some a) (cond (n == 2) (Some b) (cond (n == 3) (Some c) None))
 
+-- the class with a code
 abbrev pub class_in : ℕ → Option ServiceClass
 class_in = third_of class.A class.B class.C
 
+-- the kind of request with a code
 abbrev pub request_kind_in : ℕ → Option RequestKind
 request_kind_in = third_of kind.CombinedAttach kind.ImsiAttach kind.AreaChange
 
+-- the kind of detach with a code
 abbrev pub detach_kind_in : ℕ → Option DetachKind
 detach_kind_in n = cond (n == 1) (Some detach.ByMobile) (cond (n == 2) (Some detach.ByNetwork) (cond (n == 3) (Some detach.Imsi) (cond (n == 4) (Some detach.ImsiAndGprs) (cond (n == 5) (Some detach.SwitchedOff) None))))
 

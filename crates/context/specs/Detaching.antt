@@ -39,6 +39,7 @@ abbrev pub waiting_for : VlrNumber → Option Awaited → ℕ → Context → Co
 waiting_for v None n r = let_go false verdict.Done r
 waiting_for v (Some a) n r = record { imsi = r.imsi; class = r.class; attached = r.attached; mark = mark.Unsure v; area = r.area; errand = errand.Open (record { vlr = v; stamp = n; ticks = 8; awaited = a }) }
 
+-- where no VLR is marked none needs to be told
 abbrev pub detached_from : Option VlrNumber → DetachKind → ℕ → Context → Context
 detached_from None k n r = let_go false verdict.Done r
 detached_from (Some v) k n r = waiting_for v (awaited_by k) n r
@@ -47,6 +48,7 @@ detached_from (Some v) k n r = waiting_for v (awaited_by k) n r
 abbrev pub detached : DetachKind → ℕ → Context → Context
 detached k n r = detached_from (node_in r.mark) k n r
 
+-- the VLR, if one is marked, is told
 abbrev pub detach_to : Option VlrNumber → DetachKind → Context → List Outgoing
 detach_to None k r = []
 detach_to (Some v) k r = record { to = v.node; answers = 0; message = detach_message k r.imsi } ∷ []

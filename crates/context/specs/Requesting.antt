@@ -14,6 +14,7 @@ use Rattle.context.specs.declared.kind.RequestKind.TheVariants as kind
 use Rattle.context.specs.Codes.{attaches, update_type, voice_class}
 use Rattle.context.specs.Contexts.{sure_at}
 
+-- for voice service, of a mobile that has packet service
 abbrev pub is_imsi_attach : RequestKind → Bool
 is_imsi_attach kind.CombinedAttach = false
 is_imsi_attach kind.ImsiAttach = true
@@ -35,6 +36,7 @@ asked k q n r = record { imsi = r.imsi; class = r.class; attached = r.attached |
 abbrev pub requested : RequestKind → Request → ℕ → Context → Context
 requested k q n r = cond (needs_no_frame k q r) (done_at_once q r) (asked k q n r)
 
+-- a mobile without voice service has no class to name, and asks no VLR
 abbrev pub update_for : RequestKind → Request → Context → Option Class → List Outgoing
 update_for k q r None = []
 update_for k q r (Some c) = record { to = q.vlr.node; answers = 0; message = LuRequest r.imsi (update_type k) q.old_area q.new_area c } ∷ []

@@ -16,20 +16,24 @@ use Rattle.context.specs.Contexts.{has_voice}
 abbrev pub served : Context → Bool
 served r = r.attached && has_voice r
 
+-- no VLR is sure but of such a mobile
 abbrev pub sound_mark : Mark VlrNumber → Context → Bool
 sound_mark mark.None r = true
 sound_mark (mark.Confirmed n) r = served r && not (is_open r.errand)
 sound_mark (mark.Unsure n) r = true
 
+-- what can make a VLR sure waits for such a mobile only
 abbrev pub sound_awaited : Awaited → Context → Bool
 sound_awaited (Update a) r = served r
 sound_awaited (GprsDetach t n) r = true
 sound_awaited (ImsiDetach s) r = true
 
+-- what is open is so
 abbrev pub sound_errand : Errand → Context → Bool
 sound_errand errand.Idle r = true
 sound_errand (errand.Open o) r = sound_awaited o.awaited r
 sound_errand (errand.Ended v) r = true
 
+-- both hold of the record
 abbrev pub sound : Context → Bool
 sound r = sound_mark r.mark r && sound_errand r.errand r

@@ -11,6 +11,7 @@ use Rattle.context.specs.declared.errand.Open.{Open}
 use Rattle.context.specs.declared.errand.Awaited.{Awaited}
 use Rattle.context.specs.declared.errand.Awaited.TheVariants.{Update, GprsDetach, ImsiDetach}
 
+-- with nothing changed but its errand
 abbrev pub with_errand : Errand → Context → Context
 with_errand e r = record { imsi = r.imsi; class = r.class; attached = r.attached; mark = r.mark; area = r.area; errand = e }
 
@@ -40,9 +41,11 @@ run_out o (Update a) stamp r = expired o r
 run_out o (GprsDetach t n) stamp r = cond (n == 0) (expired o r) (with_errand (errand.Open (told_again o t n stamp)) r)
 run_out o (ImsiDetach s) stamp r = expired o r
 
+-- the VLR has a tick less
 abbrev pub one_less : Open → Open
 one_less o = record { vlr = o.vlr; stamp = o.stamp; ticks = o.ticks - 1; awaited = o.awaited }
 
+-- only what is open has a timer
 abbrev pub ticked_errand : Errand → ℕ → Context → Context
 ticked_errand errand.Idle last r = r
 ticked_errand (errand.Open o) last r = cond (nat_le o.ticks 1) (run_out o o.awaited (last + 1) r) (with_errand (errand.Open (one_less o)) r)
@@ -52,11 +55,13 @@ ticked_errand (errand.Ended v) last r = r
 abbrev pub context_ticked : ℕ → Context → Context
 context_ticked last r = ticked_errand r.errand last r
 
+-- the same detach once more, where it can be told again
 abbrev pub detach_again : Open → Awaited → Context → List Outgoing
 detach_again o (Update a) r = []
 detach_again o (GprsDetach t n) r = cond (n == 0) [] (record { to = o.vlr.node; answers = 0; message = GprsDetachIndication r.imsi t } ∷ [])
 detach_again o (ImsiDetach s) r = []
 
+-- only at the end of a timer is anything sent
 abbrev pub errand_sends : Errand → Context → List Outgoing
 errand_sends errand.Idle r = []
 errand_sends (errand.Open o) r = cond (nat_le o.ticks 1) (detach_again o o.awaited r) []

@@ -1,5 +1,5 @@
--- A tick takes one stamp at most for a record, and two for a VLR.
-use Rattle.std.proofs.Common.{ℕ, ◌*◌, ◌≤◌, Bool, true, false, cond, List, [], ◌∷◌, length, Some, None, Option, arith, eqb, leb}
+-- A tick takes one stamp at most for each record, and two for each VLR.
+use Rattle.std.proofs.Common.{ℕ, ◌+◌, ◌*◌, ◌≤◌, Bool, true, false, cond, List, [], ◌∷◌, length, Some, None, Option, arith, eqb, leb}
 use Rattle.std.proofs.lemmas.List.{length-append}
 use Rattle.elements.specs.declared.node.NodeNumber.{NodeNumber}
 use Rattle.station.specs.declared.row.Row.{Row}
@@ -15,7 +15,8 @@ use Rattle.context.specs.declared.errand.Awaited.TheVariants.{Update, GprsDetach
 use Rattle.context.specs.Ticking.{detach_again, errand_sends, context_sends}
 use Rattle.sgsn.specs.declared.peer.Peer.{Peer}
 use Rattle.sgsn.specs.Peers.{peer_sends, peers_sends}
-use Rattle.sgsn.specs.Recovering.{records_sends}
+use Rattle.sgsn.specs.Recovering.{records_sends, ticked}
+use Rattle.sgsn.specs.State.{State}
 
 either_few : (b : Bool) (xs ys : List Outgoing) → length xs ≤ 1 → length ys ≤ 1 → length (cond b xs ys) ≤ 1
 either_few true xs ys h k = h
@@ -51,3 +52,6 @@ row_few own n r =
 pub peers_few : (own : NodeNumber) (ps : List Peer) → length (peers_sends own ps) ≤ 2 * length ps
 peers_few own [] = omega arith
 peers_few own (p ∷ ps) = omega (arith, length-append (peer_sends own p) (peers_sends own ps), row_few own p.vlr.node p.row, peers_few own ps)
+
+pub tick_few : (s : State) → (ticked s).last ≤ s.last + length s.records + 2 * length s.peers
+tick_few s = omega (arith, length-append (records_sends s.records) (peers_sends s.own s.peers), records_few s.records, peers_few s.own s.peers)

@@ -8,6 +8,7 @@ use Rattle.std.specs.Option.{option_map}
 use Rattle.imsi.specs.declared.Imsi.{Imsi}
 use Rattle.elements.specs.declared.node.VlrNumber.{VlrNumber}
 use Rattle.directory.specs.Lookup.{at}
+use Rattle.directory.proofs.Lookups.{at-map}
 use Rattle.directory.specs.Order.{rank_of, same, Climbs}
 use Rattle.station.specs.declared.sending.Outgoing.{Outgoing}
 use Rattle.station.specs.Rows.{repeat_now}
@@ -50,7 +51,7 @@ abbrev pub sends_of : Option Context → List Outgoing
 sends_of None = []
 sends_of (Some r) = context_sends r
 
--- Of all that a tick of these records sends behind the last stamp, this goes before what the mobile's record sends, and that behind it; and the record ticks there.
+-- A mobile's record among all that tick: what the others send before and behind it, and that it ticks with the stamps between.
 pub record TickedAt (last : ℕ) (rs : List Context) (m : Imsi) : Type 0 where
   pub before : List Outgoing
   pub behind : List Outgoing
@@ -107,3 +108,27 @@ ticked_from last rs m =
     let t = ticked_at last rs m in
     let own = sends_of (at whose rs m) in
     (last + length t.before, omega arith, omega (arith, ap length t.sends, length-append t.before (own ++ t.behind), length-append own t.behind), t.ticked)
+
+-- what a repeat to each VLR whose RESET is repeated makes of one record
+abbrev pub doubted_record : List Peer → Context → Context
+doubted_record [] r = r
+doubted_record (p ∷ ps) r = doubted_record ps (cond (repeat_now p.row) (doubtful_at p.vlr r) r)
+
+map_composed : {X : Type 0} (f g : X → X) (o : Option X) → option_map f (option_map g o) ≡ option_map (λ x. f (g x)) o
+map_composed f g None = refl
+map_composed f g (Some x) = refl
+
+map_id : {X : Type 0} (o : Option X) → o ≡ option_map (λ x. x) o
+map_id None = refl
+map_id (Some x) = refl
+
+at_doubted : (p : Peer) (rs : List Context) (m : Imsi) (b : Bool) → at whose (cond b (map (doubtful_at p.vlr) rs) rs) m ≡ option_map (λ r. cond b (doubtful_at p.vlr r) r) (at whose rs m)
+at_doubted p rs m true = at-map whose (doubtful_at p.vlr) (whose_doubtful p.vlr) rs m
+at_doubted p rs m false = map_id (at whose rs m)
+
+pub at_doubted_all : (ps : List Peer) (rs : List Context) (m : Imsi) → at whose (doubted_by_all ps rs) m ≡ option_map (doubted_record ps) (at whose rs m)
+at_doubted_all [] rs m = map_id (at whose rs m)
+at_doubted_all (p ∷ ps) rs m =
+    at_doubted_all ps (doubted_by p rs) m
+    ∙ ap (option_map (doubted_record ps)) (at_doubted p rs m (repeat_now p.row))
+    ∙ map_composed (doubted_record ps) (λ r. cond (repeat_now p.row) (doubtful_at p.vlr r) r) (at whose rs m)

@@ -17,7 +17,7 @@ in_place f g xs i d x lt one =
 
 -- `moved n xs` is what becomes of xs behind the last stamp n, and `sends xs` what they send
 module _ {C X : Type 0} (puts : C → List ℕ → C → Type 0) (own : NodeNumber) (moved : ℕ → List X → List X) (sends : List X → List Outgoing) where
-  -- From `last` and c on, the first i of all were moved, and now it is so. What is left to be done completes what is to be done.
+  -- All are to be moved, behind the stamp `last` and from c on. The first i were, which left the stamp `now`, xs and d; what is still to be done completes the whole.
   pub record Turns (last : ℕ) (all : List X) (c : C) (i now : ℕ) (xs : List X) (d : C) : Type 0 where
     pub changed : take i xs ++ moved now (drop i xs) ≡ moved last all
     pub taken : now + length (sends (drop i xs)) ≡ last + length (sends all)
@@ -28,6 +28,7 @@ module _ {C X : Type 0} (puts : C → List ℕ → C → Type 0) (own : NodeNumb
   Done last all c now xs d = (xs ≡ moved last all) × (now ≡ last + length (sends all)) × Sent puts own last (sends all) c d
 
 module _ {C X : Type 0} {puts : C → List ℕ → C → Type 0} {own : NodeNumber} {moved : ℕ → List X → List X} {sends : List X → List Outgoing} {last : ℕ} {all : List X} {c : C} where
+  -- the element at i is moved to x, and ss go out
   pub turns_more : {i now : ℕ} {xs : List X} {d : C} (next : ℕ) (e : C) (z x : X) (ss : List Outgoing) → Turns puts own moved sends last all c i now xs d → i < length xs
       → ((rest : List X) → moved now (get_or xs i z ∷ rest) ≡ x ∷ moved next rest)
       → ((rest : List X) → sends (get_or xs i z ∷ rest) ≡ ss ++ sends rest)
@@ -43,6 +44,7 @@ module _ {C X : Type 0} {puts : C → List ℕ → C → Type 0} {own : NodeNumb
         sent = λ f s. t.sent f (subst (λ l. Sent puts own now l d f) (sym left) (sent_more puts own now ss rest d e f out (subst (λ n. Sent puts own n rest e f) on s)));
       }
 
+  -- the end of the loop
   pub turns_all : {i now : ℕ} {xs : List X} {d : C} → Turns puts own moved sends last all c i now xs d → length xs ≤ i → moved now [] ≡ [] → sends [] ≡ [] → Done puts own moved sends last all c now xs d
   turns_all {i} {now} {xs} {d} t end none nothing =
       let left : drop i xs ≡ [] = drop_all i xs end in

@@ -35,11 +35,12 @@ abbrev pub sends_for_page : Frame → Peer → Option Context → List Outgoing
 sends_for_page f p None = []
 sends_for_page f p (Some r) = page_sends p.vlr f.stamp r
 
--- the record of the mobile that a message is about, if there is one
+-- the record of the mobile, if there is one
 abbrev pub found : State → Option Imsi → Option Context
 found s None = None
 found s (Some i) = record_at s i
 
+-- the record of the mobile that a message is about
 abbrev pub noted : State → Message → Option Context
 noted s m = found s (mobile_in m)
 

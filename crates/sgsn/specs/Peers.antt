@@ -30,10 +30,11 @@ with_row p r = record { vlr = p.vlr; row = r }
 abbrev pub row_at : ℕ → Row → List Peer → List Peer
 row_at i r ps = change_at i (λ p. with_row p r) ps
 
+-- this VLR sent the frame, which names no other
 abbrev pub sent_it : Frame → Peer → Bool
 sent_it f p = is_from p.vlr.node f
 
--- the VLR that sent the frame, if it is one of these and the frame names no other
+-- the VLR that sent the frame, if it is one of these
 abbrev pub peer_from : Frame → List Peer → Option Peer
 peer_from f ps = find (sent_it f) ps
 

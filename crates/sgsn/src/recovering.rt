@@ -115,7 +115,8 @@ impl Sgsn {
             return Err(Denial::Worn);
         }
         change_each(&mut self.places, self.held, &Doubt {});
-        reset_all(&mut self.peers[0..self.count], &mut self.sender, carrier);
+        let peers = &mut self.peers[0..self.count];
+        reset_all(peers, &mut self.sender, carrier);
         Ok(())
     }
 
@@ -127,13 +128,9 @@ impl Sgsn {
             return Err(Denial::Worn);
         }
         let contexts = &mut self.places[0..self.held];
+        let peers = &mut self.peers[0..self.count];
         tick_all(contexts, &mut self.sender, carrier);
-        tick_rows(
-            &mut self.peers[0..self.count],
-            contexts,
-            &mut self.sender,
-            carrier,
-        );
+        tick_rows(peers, contexts, &mut self.sender, carrier);
         Ok(())
     }
 }

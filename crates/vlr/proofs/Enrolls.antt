@@ -1,5 +1,5 @@
 -- What a store of the enrolled record means for the questions of an enrolment.
-use Rattle.std.proofs.Common.{◌≡◌, ℕ, true, false, List, length, take, Ok, Err, Some, None, Option, sym, refl, ap, ◌∙◌, subst}
+use Rattle.std.proofs.Common.{◌≡◌, ℕ, Bool, not, true, false, List, length, take, Some, None, Option, sym, refl, ap, ◌∙◌}
 use Rattle.imsi.specs.declared.Imsi.{Imsi}
 use Rattle.imsi.specs.Spelling.{lawful_imsi}
 use Rattle.directory.specs.Lookup.{at, fits, stored, Stored}
@@ -7,8 +7,9 @@ use Rattle.directory.proofs.Lookups.{at-whose}
 use Rattle.station.specs.declared.denial.Denial.TheVariants as denial
 use Rattle.station.specs.Sends.{is_worn}
 use Rattle.vlr.specs.declared.record.Record.{Record}
+use Rattle.station.specs.Calls.{unless}
 use Rattle.vlr.specs.State.{State, whose, with_records}
-use Rattle.vlr.specs.Enrolling.{enrolled, places, Placed, Lawful, Asked, Enrolled}
+use Rattle.vlr.specs.Enrolling.{enrolled, enrol_denial, places, with_enrolled}
 
 -- the enrolled record is the mobile's
 enrolled_by : (xs : List Record) (i : Imsi) (c : ℕ) (o : Option Record) → at whose xs i ≡ o → whose (enrolled i c o) ≡ i
@@ -18,26 +19,24 @@ enrolled_by xs i c (Some r) e = at-whose whose xs i r e
 pub its_own : (xs : List Record) (i : Imsi) (c : ℕ) → whose (enrolled i c (at whose xs i)) ≡ i
 its_own xs i c = enrolled_by xs i c (at whose xs i) refl
 
--- no place is free
-pub no_place : (s : State) (i : Imsi) (c n : ℕ) (ps qs : List Record) → length ps ≡ places → s.records ≡ take n ps → is_worn s.last ≡ false → lawful_imsi i.digits i.value ≡ true → Stored whose n (enrolled i c (at whose (take n ps) i)) ps qs None → Enrolled s i c (Err denial.NoPlace) s
-no_place s i c n ps qs long is fresh lawful st =
-    let full : fits whose places s.records i ≡ false =
+-- the questions, where the first two do not deny
+asked : (s : State) (i : Imsi) (b : Bool) → is_worn s.last ≡ false → lawful_imsi i.digits i.value ≡ true → fits whose places s.records i ≡ b → enrol_denial s i ≡ unless b denial.NoPlace None
+asked s i b fresh lawful fit = (λ t. unless (not (fresh t)) denial.Worn (unless (lawful t) denial.UnlawfulImsi (unless (fit t) denial.NoPlace None)))
+
+-- whether the record has its place
+has_room : (s : State) (i : Imsi) (c n : ℕ) (ps : List Record) (b : Bool) → length ps ≡ places → s.records ≡ take n ps → fits whose (length ps) (take n ps) (whose (enrolled i c (at whose (take n ps) i))) ≡ b → fits whose places s.records i ≡ b
+has_room s i c n ps b long is fit =
     (λ t. fits whose (sym long t) (is t) i)
     ∙ (λ t. fits whose (length ps) (take n ps) (sym (its_own (take n ps) i c) t))
-    ∙ st.0 in
-    subst (λ b. Asked b s i c (Err denial.NoPlace) s) (sym fresh)
-    (subst (λ b. Lawful b s i c (Err denial.NoPlace) s) (sym lawful)
-    (subst (λ b. Placed b s i c (Err denial.NoPlace) s) (sym full) (refl, refl)))
+    ∙ fit
+
+-- no place is free
+pub no_place : (s : State) (i : Imsi) (c n : ℕ) (ps qs : List Record) → length ps ≡ places → s.records ≡ take n ps → is_worn s.last ≡ false → lawful_imsi i.digits i.value ≡ true → Stored whose n (enrolled i c (at whose (take n ps) i)) ps qs None → enrol_denial s i ≡ Some denial.NoPlace
+no_place s i c n ps qs long is fresh lawful st = asked s i false fresh lawful (has_room s i c n ps false long is st.0)
 
 -- the record has its place
-pub has_place : (s t : State) (i : Imsi) (c n m : ℕ) (ps qs : List Record) → length ps ≡ places → s.records ≡ take n ps → is_worn s.last ≡ false → lawful_imsi i.digits i.value ≡ true → Stored whose n (enrolled i c (at whose (take n ps) i)) ps qs (Some m) → t ≡ with_records s (take m qs) → Enrolled s i c (Ok tt) t
-has_place s t i c n m ps qs long is fresh lawful st after =
-    let room : fits whose places s.records i ≡ true =
-    (λ x. fits whose (sym long x) (is x) i)
-    ∙ (λ x. fits whose (length ps) (take n ps) (sym (its_own (take n ps) i c) x))
-    ∙ st.1 in
-    let records : take m qs ≡ stored whose (enrolled i c (at whose s.records i)) s.records =
-    st.2 ∙ (λ x. stored whose (enrolled i c (at whose (sym is x) i)) (sym is x)) in
-    subst (λ b. Asked b s i c (Ok tt) t) (sym fresh)
-    (subst (λ b. Lawful b s i c (Ok tt) t) (sym lawful)
-    (subst (λ b. Placed b s i c (Ok tt) t) (sym room) (refl, after ∙ ap (with_records s) records)))
+pub has_place : (s : State) (i : Imsi) (c n m : ℕ) (ps qs : List Record) → length ps ≡ places → s.records ≡ take n ps → is_worn s.last ≡ false → lawful_imsi i.digits i.value ≡ true → Stored whose n (enrolled i c (at whose (take n ps) i)) ps qs (Some m) → enrol_denial s i ≡ None
+has_place s i c n m ps qs long is fresh lawful st = asked s i true fresh lawful (has_room s i c n ps true long is st.1)
+
+pub placed_record : (s : State) (i : Imsi) (c n m : ℕ) (ps qs : List Record) → s.records ≡ take n ps → Stored whose n (enrolled i c (at whose (take n ps) i)) ps qs (Some m) → with_records s (take m qs) ≡ with_enrolled s i c
+placed_record s i c n m ps qs is st = ap (with_records s) (st.2 ∙ (λ t. stored whose (enrolled i c (at whose (sym is t) i)) (sym is t)))

@@ -1,3 +1,4 @@
+pub mod ByMobile
 pub mod Delivers
 pub mod Enrolls
 pub mod Replies

@@ -16,7 +16,7 @@ use Rattle.station.specs.Rows.{reset_taken, acknowledged}
 use Rattle.vlr.specs.declared.record.Record.{Record}
 use Rattle.vlr.specs.Moves.{moved, answer_to}
 use Rattle.vlr.specs.Records.{doubtful}
-use Rattle.vlr.specs.State.{State, whose, with_records}
+use Rattle.vlr.specs.State.{State, own_of, last_of, whose, with_records}
 
 -- the record of the mobile, if there is one
 abbrev pub found : State → Option Imsi → Option Record
@@ -83,12 +83,6 @@ with_last s n = record { own = s.own; last = s.last + n; sgsn = s.sgsn; row = s.
 -- after a frame from its SGSN that names no other
 abbrev pub taken : State → Frame → State
 taken s f = with_last (with_moved s f) (length (answers_to s f))
-
-abbrev pub own_of : State → NodeNumber
-own_of s = s.own
-
-abbrev pub last_of : State → ℕ
-last_of s = s.last
 
 -- any other frame has no effect
 abbrev pub moved_by_frame : State → Frame → State

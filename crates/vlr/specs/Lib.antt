@@ -1,6 +1,7 @@
 pub mod Calls
 pub mod Delivering
 pub mod Enrolling
+pub mod Laws
 pub mod Making
 pub mod Moves
 pub mod Paging

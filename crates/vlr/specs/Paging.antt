@@ -14,7 +14,7 @@ use Rattle.station.specs.declared.sending.Outgoing.{Outgoing}
 use Rattle.station.specs.Sends.{is_worn}
 use Rattle.vlr.specs.declared.record.Record.{Record}
 use Rattle.vlr.specs.State.{State, whose}
-use Rattle.vlr.specs.Calls.{unless}
+use Rattle.station.specs.Calls.{unless}
 
 abbrev pub is_sure : Mark SgsnNumber → Bool
 is_sure mark.None = false

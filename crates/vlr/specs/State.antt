@@ -17,6 +17,12 @@ pub record State : Type 0 where
 abbrev pub state_of : Vlr → State
 state_of v = record { own = v.sender.own; last = v.sender.last; sgsn = v.sgsn; row = v.row; records = take v.held v.places }
 
+abbrev pub own_of : State → NodeNumber
+own_of s = s.own
+
+abbrev pub last_of : State → ℕ
+last_of s = s.last
+
 -- the mobile of a record
 abbrev pub whose : Record → Imsi
 whose r = r.imsi

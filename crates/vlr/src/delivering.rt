@@ -5,6 +5,7 @@ ghost use Rattle.station.specs.Sends.{HasStamps, Sent};
 ghost use Rattle.vlr.specs.State.{state_of};
 ghost use Rattle.vlr.specs.Moves.{answer_to};
 ghost use Rattle.vlr.specs.Delivering.{noted, answering, answers_to, with_noted, with_moved, with_last, taken, Delivers};
+ghost use Rattle.vlr.specs.Laws.{DeliversByMobile};
 
 use crate::moves::{answer_to, moved};
 use crate::record::{Doubt, Record};
@@ -87,7 +88,8 @@ impl Vlr {
 
     // Takes once from the carrier.
     pub fn deliver<C: InOrder>(&mut self, carrier: &mut C) -> Result<Delivery, Refusal>
-        ensures { Delivers C.Carrier.takes C.Carrier.puts result (state_of self.old) carrier.old (state_of self.new) carrier.new }
+        ensures delivers { Delivers C.Carrier.takes C.Carrier.puts result (state_of self.old) carrier.old (state_of self.new) carrier.new }
+        ensures by_mobile { DeliversByMobile C.Carrier.takes (state_of self.old) carrier.old (state_of self.new) }
     {
         if self.sender.is_worn() {
             return Err(Refusal::Denied(Denial::Worn));

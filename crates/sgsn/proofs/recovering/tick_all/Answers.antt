@@ -9,11 +9,5 @@ loop-context-preserved g c =
     let more = record_turn c.tick.new.sender _ _ _ l.turns l.same l.stamps l.may (omega arith) c.tick.ensures.context c.tick.ensures.last c.tick.ensures.sent in
     record { same = c.tick.ensures.own ∙ l.same; stamps = more.0; may = more.1; turns = more.2 }
 
-pub returns-clause-contexts : goal.returns-clause-contexts
-returns-clause-contexts g c = (turns_all c.loop-context.invariant.turns (omega arith) refl refl).0
-
-pub returns-clause-last : goal.returns-clause-last
-returns-clause-last g c = (turns_all c.loop-context.invariant.turns (omega arith) refl refl).1
-
 pub returns-clause-sent : goal.returns-clause-sent
 returns-clause-sent g c = (turns_all c.loop-context.invariant.turns (omega arith) refl refl).2

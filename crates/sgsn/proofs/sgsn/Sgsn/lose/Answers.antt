@@ -1,11 +1,10 @@
-use Rattle.std.proofs.Common.{◌-◌, ◌++◌, map, take, drop, refl, ap, ◌∙◌, arith}
-use Rattle.std.proofs.lemmas.List.{take_at, length-map, length-take-le}
+use Rattle.std.proofs.Common.{◌≤◌, ◌-◌, ◌++◌, map, length, take, drop, refl, ap, ◌∙◌, arith}
 use Rattle.std.specs.List.{list_all}
 use Rattle.context.specs.Contexts.{doubtful}
 use Rattle.sgsn.specs.Fitting.{fits_in}
 use Rattle.sgsn.specs.Peers.{peers_lost}
 use Rattle.sgsn.proofs.Fits.{vlrs_lost, fits_map, fits_doubtful}
-use Rattle.sgsn.proofs.Kept.{front, reached}
+use Rattle.sgsn.proofs.Kept.{front, front_mapped, reached}
 use Rattle.sgsn.proofs.sgsn.Sgsn.lose.Goals as goal
 
 pub invariant_of-self-2-clause-nodes : goal.invariant_of-self-2-clause-nodes
@@ -25,9 +24,8 @@ pub invariant_of-self-2-clause-fit : goal.invariant_of-self-2-clause-fit
 invariant_of-self-2-clause-fit g c =
     let s = c.args.self.now in
     let vs = map (λ p. p.vlr) (take s.count s.peers) in
-    let rs = take s.held s.places in
-    let held = length-take-le s.held s.places (omega (arith, s.few, s.all)) in
     let ps = front s.count s.peers c.reset_all.new.peers (peers_lost s.sender.last) (omega arith) c.reset_all.ensures.peers in
     let same = ap (map (λ p. p.vlr)) ps ∙ vlrs_lost s.sender.last (take s.count s.peers) in
-    let records = ap (take s.held) (c.change_each.ensures.places (omega (arith, s.few, s.all))) ∙ take_at (map doubtful rs) (drop s.held s.places) s.held (length-map rs doubtful ∙ held) in
-    (λ k. list_all (fits_in (same k)) (records k)) ∙ fits_map vs doubtful rs (fits_doubtful vs) s.fit
+    let held : s.held ≤ length s.places = omega (arith, s.few, s.all) in
+    let records = front_mapped s.held s.places c.change_each.new.places doubtful held (c.change_each.ensures.places held) in
+    (λ k. list_all (fits_in (same k)) (records k)) ∙ fits_map vs doubtful (take s.held s.places) (fits_doubtful vs) s.fit

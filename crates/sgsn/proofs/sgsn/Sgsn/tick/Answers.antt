@@ -36,7 +36,7 @@ tick_rows-requires-clause-stamps g c =
 pub invariant_of-self-2-clause-nodes : goal.invariant_of-self-2-clause-nodes
 invariant_of-self-2-clause-nodes g c =
     let s = c.args.self.now in
-    let left = peers_left s c.tick_all.new.sender.own c.tick_all.new.sender.last c.tick_rows.new.peers c.tick_all.ensures.own c.tick_all.ensures.last c.tick_rows.ensures.peers in
+    let left = peers_left s c.tick_all.ensures.own c.tick_all.ensures.last c.tick_rows.ensures.peers in
     reached s.sender.own c.tick_rows.new.sender.own (take s.count s.peers) (take s.count (c.tick_rows.new.peers ++ drop (s.count - 0) s.peers)) (c.tick_rows.ensures.own ∙ c.tick_all.ensures.own)
     (ap (map (λ p. p.vlr)) left ∙ vlrs_ticked s.sender.own (last_between (state_of s)) (take s.count s.peers))
     s.nodes
@@ -44,14 +44,14 @@ invariant_of-self-2-clause-nodes g c =
 pub invariant_of-self-2-clause-all : goal.invariant_of-self-2-clause-all
 invariant_of-self-2-clause-all g c =
     let s = c.args.self.now in
-    let left = records_left s c.tick_all.new.contexts c.tick_rows.new.contexts c.tick_all.ensures.contexts c.tick_rows.ensures.contexts in
+    let left = records_left s c.tick_all.ensures.contexts c.tick_rows.ensures.contexts in
     omega (arith, length-append c.tick_rows.new.contexts (drop (s.held - 0) s.places), length-drop (s.held - 0) s.places, left.0, s.few, s.all)
 
 pub invariant_of-self-2-clause-rising : goal.invariant_of-self-2-clause-rising
 invariant_of-self-2-clause-rising g c =
     let s = c.args.self.now in
     let rs = take s.held s.places in
-    let left = records_left s c.tick_all.new.contexts c.tick_rows.new.contexts c.tick_all.ensures.contexts c.tick_rows.ensures.contexts in
+    let left = records_left s c.tick_all.ensures.contexts c.tick_rows.ensures.contexts in
     Climbs_same whose rs (take s.held (c.tick_rows.new.contexts ++ drop (s.held - 0) s.places))
     (ap (map whose) left.1 ∙ mobiles_doubted (take s.count s.peers) (records_ticked s.sender.last rs) ∙ mobiles_ticked s.sender.last rs)
     s.rising
@@ -61,8 +61,8 @@ invariant_of-self-2-clause-fit g c =
     let s = c.args.self.now in
     let ps = take s.count s.peers in
     let rs = take s.held s.places in
-    let peers = peers_left s c.tick_all.new.sender.own c.tick_all.new.sender.last c.tick_rows.new.peers c.tick_all.ensures.own c.tick_all.ensures.last c.tick_rows.ensures.peers in
-    let records = records_left s c.tick_all.new.contexts c.tick_rows.new.contexts c.tick_all.ensures.contexts c.tick_rows.ensures.contexts in
+    let peers = peers_left s c.tick_all.ensures.own c.tick_all.ensures.last c.tick_rows.ensures.peers in
+    let records = records_left s c.tick_all.ensures.contexts c.tick_rows.ensures.contexts in
     let vlrs = ap (map (λ p. p.vlr)) peers ∙ vlrs_ticked s.sender.own (last_between (state_of s)) ps in
     (λ k. list_all (fits_in (vlrs k)) (records.1 k))
     ∙ fits_doubted (vlrs_of (state_of s)) ps (records_ticked s.sender.last rs) (fits_all_ticked (vlrs_of (state_of s)) s.sender.last rs s.fit)
@@ -78,9 +78,9 @@ returns g c =
       records = take s.held (c.tick_rows.new.contexts ++ drop (s.held - 0) s.places);
     } in
     let own = c.tick_rows.ensures.own ∙ c.tick_all.ensures.own in
-    let last = last_left s c.tick_all.new.sender.own c.tick_all.new.sender.last c.tick_rows.new.sender.last c.tick_all.ensures.own c.tick_all.ensures.last c.tick_rows.ensures.last in
-    let peers = peers_left s c.tick_all.new.sender.own c.tick_all.new.sender.last c.tick_rows.new.peers c.tick_all.ensures.own c.tick_all.ensures.last c.tick_rows.ensures.peers in
-    let records = records_left s c.tick_all.new.contexts c.tick_rows.new.contexts c.tick_all.ensures.contexts c.tick_rows.ensures.contexts in
+    let last = last_left s c.tick_all.ensures.own c.tick_all.ensures.last c.tick_rows.ensures.last in
+    let peers = peers_left s c.tick_all.ensures.own c.tick_all.ensures.last c.tick_rows.ensures.peers in
+    let records = records_left s c.tick_all.ensures.contexts c.tick_rows.ensures.contexts in
     let is : after ≡ ticked (state_of s) = λ k. record { own = own k; last = last k; peers = peers k; records = records.1 k } in
-    let sent = sent_left g.C.Carrier.puts s c.tick_all.new.sender.own c.tick_all.new.sender.last c.args.carrier.now c.tick_all.new.carrier c.tick_rows.new.carrier c.tick_all.ensures.own c.tick_all.ensures.last c.tick_all.ensures.sent c.tick_rows.ensures.sent in
+    let sent = sent_left g.C.Carrier.puts s c.args.carrier.now c.tick_all.new.carrier c.tick_rows.new.carrier c.tick_all.ensures.own c.tick_all.ensures.last c.tick_all.ensures.sent c.tick_rows.ensures.sent in
     subst (λ b. Called own_of last_of g.C.Carrier.puts (unless (not b) denial.Worn None) tt (state_of s) (ticked (state_of s)) (tick_sends (state_of s)) (Ok tt) c.args.carrier.now after c.tick_rows.new.carrier) (sym fresh) (refl, is, sent)

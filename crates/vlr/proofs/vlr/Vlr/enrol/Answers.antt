@@ -1,11 +1,13 @@
-use Rattle.std.proofs.Common.{◌≡◌, true, false, take, Err, sym, refl, ap, ◌∙◌, subst, rules, arith}
+use Rattle.std.proofs.Common.{◌≡◌, true, false, take, Err, Ok, sym, refl, ap, ◌∙◌, subst, rules, arith}
 use Rattle.imsi.specs.Spelling.{lawful_imsi}
 use Rattle.directory.specs.Lookup.{at, Held, Stored}
 use Rattle.station.specs.Sends.{is_worn}
 use Rattle.station.specs.declared.denial.Denial.TheVariants as denial
 use Rattle.vlr.specs.State.{state_of, whose, with_records}
-use Rattle.vlr.specs.Enrolling.{enrolled, Enrolled}
-use Rattle.vlr.proofs.Enrolls.{no_place, has_place}
+use Rattle.station.specs.Calls.{Decided}
+use Rattle.vlr.specs.Enrolling.{enrolled, enrol_denial, with_enrolled}
+use Rattle.vlr.proofs.ByMobile.{enrolment}
+use Rattle.vlr.proofs.Enrolls.{no_place, has_place, placed_record}
 use Rattle.vlr.proofs.vlr.Vlr.enrol.Goals as goal
 
 pub returns-in-None : goal.returns-in-None
@@ -20,7 +22,11 @@ returns-in-None c =
     let st = subst (λ o. Stored whose v.held (enrolled i cause (at whose (take v.held v.places) i)) v.places c.store.new.places o) c.in-None.is put in
     let fresh : is_worn s.last ≡ false = search rules in
     let lawful : lawful_imsi i.digits i.value ≡ true = search rules in
-    subst (λ ps. Enrolled s i cause (Err denial.NoPlace) (with_records s (take v.held ps))) (sym st.1) (no_place s i cause v.held v.places c.store.new.places v.all refl fresh lawful st)
+    let denied : Decided (enrol_denial s i) tt s (with_enrolled s i cause) (Err denial.NoPlace) (with_records s (take v.held c.store.new.places)) =
+    subst (λ o. Decided o tt s (with_enrolled s i cause) (Err denial.NoPlace) (with_records s (take v.held c.store.new.places)))
+    (sym (no_place s i cause v.held v.places c.store.new.places v.all refl fresh lawful st))
+    (refl, ap (λ ps. with_records s (take v.held ps)) st.1) in
+    record { decided = denied; by_mobile = enrolment s _ i cause _ denied }
 
 pub returns-in-Some : goal.returns-in-Some
 returns-in-Some c =
@@ -34,4 +40,8 @@ returns-in-Some c =
     let st = subst (λ o. Stored whose v.held (enrolled i cause (at whose (take v.held v.places) i)) v.places c.store.new.places o) c.in-Some.is put in
     let fresh : is_worn s.last ≡ false = search rules in
     let lawful : lawful_imsi i.digits i.value ≡ true = search rules in
-    has_place s _ i cause v.held c.in-Some.held v.places c.store.new.places v.all refl fresh lawful st refl
+    let done : Decided (enrol_denial s i) tt s (with_enrolled s i cause) (Ok tt) (with_records s (take c.in-Some.held c.store.new.places)) =
+    subst (λ o. Decided o tt s (with_enrolled s i cause) (Ok tt) (with_records s (take c.in-Some.held c.store.new.places)))
+    (sym (has_place s i cause v.held c.in-Some.held v.places c.store.new.places v.all refl fresh lawful st))
+    (refl, placed_record s i cause v.held c.in-Some.held v.places c.store.new.places refl st) in
+    record { decided = done; by_mobile = enrolment s _ i cause _ done }

@@ -1,0 +1,6 @@
+pub mod Answers
+pub mod Counts
+pub mod Laws
+pub mod Sound
+pub mod Steps
+pub mod Tables

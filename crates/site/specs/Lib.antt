@@ -1,0 +1,3 @@
+pub mod Making
+pub mod Registers
+pub mod Sites

@@ -1,0 +1,82 @@
+-- What each call does to the record of one mobile.
+use Rattle.std.specs.Prelude.{◌≡◌, ℕ, Bool, true, false, cond, List, Some, None, Ok, Err, Option, Result}
+use Rattle.std.specs.Option.{option_map}
+use Rattle.elements.specs.declared.fault.Fault.{Fault}
+use Rattle.elements.specs.declared.node.NodeNumber.{NodeNumber}
+use Rattle.elements.specs.declared.node.SgsnNumber.{SgsnNumber}
+use Rattle.imsi.specs.declared.Imsi.{Imsi}
+use Rattle.frames.specs.declared.frame.Frame.{Frame}
+use Rattle.messages.specs.declared.message.Message.{Message}
+use Rattle.messages.specs.declared.message.Message.TheVariants.{Paging, PagingFailure, MobileStatus, LuRequest, LuAccept, LuReject, Reset, ResetAcknowledge, GprsDetachIndication, GprsDetachAcknowledge, ImsiDetachIndication, ImsiDetachAcknowledge}
+use Rattle.directory.specs.Lookup.{at}
+use Rattle.directory.specs.Order.{same}
+use Rattle.station.specs.declared.denial.Denial.{Denial}
+use Rattle.station.specs.Receiving.{is_from, Received}
+use Rattle.station.specs.Sends.{is_worn}
+use Rattle.vlr.specs.declared.record.Record.{Record}
+use Rattle.vlr.specs.Records.{doubtful}
+use Rattle.vlr.specs.Moves.{moved}
+use Rattle.vlr.specs.Enrolling.{enrolled, enrol_denial}
+use Rattle.vlr.specs.Calls.{worn_denial}
+use Rattle.vlr.specs.State.{State, whose}
+
+-- the record of a mobile, if it is held
+abbrev pub record_at : State → Imsi → Option Record
+record_at s m = at whose s.records m
+
+-- what becomes of each mobile's record, and of its mark with that
+abbrev pub ByMobile : State → State → (Imsi → Option Record → Option Record) → Type 0
+ByMobile s t f = (m : Imsi) → record_at t m ≡ f m (record_at s m)
+
+-- a call that is denied leaves a record as it was
+abbrev pub unless_denied : Option Denial → Option Record → Option Record → Option Record
+unless_denied (Some d) before after = before
+unless_denied None before after = after
+
+-- a loss makes every record doubtful
+abbrev pub by_loss : State → Imsi → Option Record → Option Record
+by_loss s m r = unless_denied (worn_denial s) r (option_map doubtful r)
+
+-- an enrolment changes its mobile's record, and no other
+abbrev pub by_enrolment : State → Imsi → ℕ → Imsi → Option Record → Option Record
+by_enrolment s i c m r = unless_denied (enrol_denial s i) r (cond (same m i) (Some (enrolled i c r)) r)
+
+-- a message moves the record of the mobile that it is about, and no other
+abbrev pub if_about : SgsnNumber → Message → Imsi → Imsi → Option Record → Option Record
+if_about n a i m r = cond (same m i) (option_map (moved n a) r) r
+
+-- but a RESET makes every record doubtful
+abbrev pub by_message : SgsnNumber → Message → Imsi → Option Record → Option Record
+by_message n (Reset e) m r = option_map doubtful r
+by_message n (ResetAcknowledge e) m r = r
+by_message n (Paging i t c) m r = if_about n (Paging i t c) i m r
+by_message n (PagingFailure i c) m r = if_about n (PagingFailure i c) i m r
+by_message n (MobileStatus i c) m r = if_about n (MobileStatus i c) i m r
+by_message n (LuRequest i u o a c) m r = if_about n (LuRequest i u o a c) i m r
+by_message n (LuAccept i a) m r = if_about n (LuAccept i a) i m r
+by_message n (LuReject i c) m r = if_about n (LuReject i c) i m r
+by_message n (GprsDetachIndication i t) m r = if_about n (GprsDetachIndication i t) i m r
+by_message n (GprsDetachAcknowledge i t) m r = if_about n (GprsDetachAcknowledge i t) i m r
+by_message n (ImsiDetachIndication i t) m r = if_about n (ImsiDetachIndication i t) i m r
+by_message n (ImsiDetachAcknowledge i t) m r = if_about n (ImsiDetachAcknowledge i t) i m r
+
+-- what was taken, if it is a frame of the SGSN's
+abbrev pub by_frame : State → Option (Result Frame Fault) → Imsi → Option Record → Option Record
+by_frame s None m r = r
+by_frame s (Some (Err e)) m r = r
+by_frame s (Some (Ok f)) m r = cond (is_from s.sgsn.node f) (by_message s.sgsn f.message m r) r
+
+-- the carrier gave this, and each mobile's record is as that makes it
+pub record GivenByMobile {C : Type 0} (takes : C → NodeNumber → Option (List ℕ) → C → Type 0) (s : State) (c : C) (t : State) : Type 0 where
+  pub got : Option (Result Frame Fault)
+  pub between : C
+  pub received : Received takes s.own got c between
+  pub records : ByMobile s t (by_frame s got)
+
+-- where the end is worn, nothing is taken
+abbrev pub TakenByMobile : {C : Type 0} → Bool → (C → NodeNumber → Option (List ℕ) → C → Type 0) → State → C → State → Type 0
+TakenByMobile true takes s c t = ByMobile s t (λ m r. r)
+TakenByMobile false takes s c t = GivenByMobile takes s c t
+
+abbrev pub DeliversByMobile : {C : Type 0} → (C → NodeNumber → Option (List ℕ) → C → Type 0) → State → C → State → Type 0
+DeliversByMobile takes s c t = TakenByMobile (is_worn s.last) takes s c t
