@@ -1,6 +1,9 @@
 // Calls by hand: whoever makes them keeps the reply that is owed, and settles it.
 ghost use Rattle.std.specs.Prelude.{◌≡◌, ◌∷◌, IfOk, IfErr};
+ghost use Rattle.station.specs.declared.denial.Denial.TheVariants as Denial;
+ghost use Rattle.sgsn.specs.Awaiting.{SettledInTime};
 ghost use Rattle.sgsn.specs.Replies.{reply_to};
+ghost use Rattle.sgsn.specs.State.{state_of};
 ghost use Rattle.law.specs.declared.call.Call.TheVariants as call;
 ghost use Rattle.law.specs.Laws.{Law};
 ghost use Rattle.law.specs.Steps.{Step, Came, Events};
@@ -42,5 +45,15 @@ impl<C: InOrder> Site<C> {
         ensures law { (es : Events) → Came C.Carrier.waiting C.InOrder.last_given C.Carrier.takes C.Carrier.puts es (view_of self.old) → Law (with_settling (is_its reply (view_of self.old)) reply result es) (view_of self.new) }
     {
         self.sgsn.settle(reply)
+    }
+
+    // Settles a reply for whoever lets no more frames in: the SGSN ticks until its verdict is there, 32 times at most.
+    pub fn settle_in_time(&mut self, reply: Reply) -> Result<Verdict, (Denial, Reply)>
+        ensures settled { SettledInTime C.Carrier.puts reply result (state_of self.old.sgsn) self.old.carrier (state_of self.new.sgsn) self.new.carrier }
+        ensures denied { IfErr result (λ e. e ≡ (Denial.NoSuchReply, reply)) }
+        ensures vlrs { self.new.vlrs ≡ self.old.vlrs }
+        ensures law { (es : Events) → Came C.Carrier.waiting C.InOrder.last_given C.Carrier.takes C.Carrier.puts es (view_of self.old) → (fs : Events) × Came C.Carrier.waiting C.InOrder.last_given C.Carrier.takes C.Carrier.puts fs (view_of self.new) × Law fs (view_of self.new) }
+    {
+        self.sgsn.settle_in_time(&mut self.carrier, reply)
     }
 }
