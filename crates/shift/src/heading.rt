@@ -1,0 +1,57 @@
+// Which call an answer is for.
+use imsi::Imsi;
+use law::call::Call;
+use std::fmt;
+use words::in_words::InWords;
+
+// One call of several that a line asks for.
+#[derive(Clone, Copy)]
+pub(crate) struct Turn {
+    pub(crate) nth: usize,
+    pub(crate) of: usize,
+}
+
+#[derive(Clone, Copy)]
+pub(crate) enum Heading<'a> {
+    // a call that a line asks for, in the line's words
+    Line {
+        number: u64,
+        words: &'a str,
+    },
+    // one of several
+    Turn {
+        number: u64,
+        words: &'a str,
+        turn: Turn,
+    },
+    // after the last line
+    LastTick(Turn),
+    LastSettle(Imsi),
+}
+
+impl Heading<'_> {
+    // Ticks that send nothing are shown only where the last of them ends.
+    pub(crate) fn may_be_quiet(&self, call: Call) -> bool {
+        match *self {
+            Heading::Turn { turn, .. } | Heading::LastTick(turn) => {
+                matches!(call, Call::Tick { .. }) && turn.nth < turn.of
+            }
+            _ => false,
+        }
+    }
+}
+
+impl fmt::Display for Heading<'_> {
+    fn fmt<W: fmt::Write>(&self, f: &mut fmt::Formatter<W>) -> fmt::Result {
+        match *self {
+            Heading::Line { number, words } => write!(f, "line {number}: {words}"),
+            Heading::Turn {
+                number,
+                words,
+                turn,
+            } => write!(f, "line {number}: {words}, {} of {}", turn.nth, turn.of),
+            Heading::LastTick(turn) => write!(f, "end: tick {} of {}", turn.nth, turn.of),
+            Heading::LastSettle(imsi) => write!(f, "end: settle {}", InWords(imsi)),
+        }
+    }
+}
