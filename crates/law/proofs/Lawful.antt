@@ -9,7 +9,9 @@ use Rattle.law.specs.Steps.{Events, Step, Came}
 use Rattle.law.specs.Steps.Came.{next}
 use Rattle.law.specs.Tables.{View}
 use Rattle.law.proofs.Agreeing.{agreed_after}
+use Rattle.law.proofs.Calls.{sound}
 use Rattle.law.proofs.Carried.{Carries}
+use Rattle.law.proofs.Once.{once}
 use Rattle.law.proofs.Replies.{replies, timely}
 
 module _ {C : Type 0} (waiting : C → List (List ℕ)) (latest : C → Stamps) (takes : C → NodeNumber → Option (List ℕ) → C → Type 0) (puts : C → List ℕ → C → Type 0) (K : Carries waiting latest takes puts) where
@@ -20,6 +22,7 @@ module _ {C : Type 0} (waiting : C → List (List ℕ)) (latest : C → Stamps) 
         agreed = agreed_after waiting latest takes puts K came;
         balanced = owed.balanced;
         owed = owed.owed;
+        once = λ m. once m x.sgsn.records (sound waiting latest takes puts K came).fit.rise;
         timely = timely es x.sgsn owed;
       }
 

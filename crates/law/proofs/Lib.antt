@@ -6,6 +6,7 @@ pub mod Keeping
 pub mod Lawful
 pub mod Losses
 pub mod Numbers
+pub mod Once
 pub mod OneRecord
 pub mod Owing
 pub mod Pairs

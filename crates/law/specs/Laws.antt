@@ -2,6 +2,7 @@
 use Rattle.std.specs.Prelude.{◌≡◌, ℕ, ◌+◌, ◌≤◌, ◌⊎◌, true, false, List, Some, None, Option}
 use Rattle.std.specs.List.{find, count_by}
 use Rattle.imsi.specs.declared.Imsi.{Imsi}
+use Rattle.directory.specs.Order.{same}
 use Rattle.elements.specs.declared.node.VlrNumber.{VlrNumber}
 use Rattle.elements.specs.Nodes.{same_node}
 use Rattle.station.specs.declared.mark.Mark.TheVariants as mark
@@ -37,6 +38,10 @@ Balanced es s = accepted_calls asks es ≡ accepted_calls settles es + owing s
 abbrev pub Owed : Events → sgsn.State → Type 0
 Owed es s = (m : Imsi) → owes (errand_of s m) ≡ owes_reply m es
 
+-- a mobile has one record at most, so that the records that owe a reply are as many as the mobiles
+abbrev pub Once : sgsn.State → Type 0
+Once s = (m : Imsi) → count_by (λ r. same m r.imsi) s.records ≤ 1
+
 -- a reply that is owed has its verdict once 32 ticks of the SGSN were accepted since its request or detach
 abbrev pub Timely : Events → sgsn.State → Type 0
 Timely es s = (m : Imsi) → owes_reply m es ≡ true → 32 ≤ ticks_since s.own m es → is_open (errand_of s m) ≡ false
@@ -45,4 +50,5 @@ pub record Law {C : Type 0} (es : Events) (x : View C) : Type 0 where
   pub agreed : Agreed x.sgsn x.vlrs
   pub balanced : Balanced es x.sgsn
   pub owed : Owed es x.sgsn
+  pub once : Once x.sgsn
   pub timely : Timely es x.sgsn
