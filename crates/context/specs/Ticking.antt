@@ -1,5 +1,5 @@
 -- One tick of a mobile's open request or detach.
-use Rattle.std.specs.Prelude.{ℕ, ◌-◌, ◌+◌, Bool, false, cond, List, [], ◌∷◌, ◌==◌, nat_le}
+use Rattle.std.specs.Prelude.{ℕ, ◌-◌, ◌+◌, ◌*◌, Bool, false, cond, List, [], ◌∷◌, ◌==◌, nat_le}
 use Rattle.elements.specs.declared.code.GprsDetachType.{GprsDetachType}
 use Rattle.messages.specs.declared.message.Message.TheVariants.{GprsDetachIndication}
 use Rattle.station.specs.declared.sending.Outgoing.{Outgoing}
@@ -30,6 +30,10 @@ abbrev pub repeats_of : Awaited → ℕ
 repeats_of (Update a) = 0
 repeats_of (GprsDetach t n) = n
 repeats_of (ImsiDetach s) = 0
+
+-- how many ticks it takes until it ends, if no answer comes
+abbrev pub ticks_left : Open → ℕ
+ticks_left o = o.ticks + 8 * repeats_of o.awaited
 
 -- told again with this stamp: an answer has 8 ticks once more
 abbrev pub told_again : Open → GprsDetachType → ℕ → ℕ → Open

@@ -1,5 +1,5 @@
 -- The worked examples as rows of one list.
-use Rattle.std.specs.Prelude.{◌≡◌, ℕ, List, [], ◌∷◌, map, Some, None, Ok, Err, Option}
+use Rattle.std.specs.Prelude.{◌≡◌, true, false, ℕ, List, [], ◌∷◌, map, Some, None, Ok, Err, Option}
 use Rattle.std.specs.Option.{option_map}
 use Rattle.imsi.specs.Spelling.{imsi_in}
 use Rattle.imsi.specs.Spelling as imsi
@@ -13,6 +13,14 @@ use Rattle.messages.specs.Spelling.{Spells}
 use Rattle.frames.specs.Format.{frame_octets}
 use Rattle.gate.specs.declared.pairs.Pair.{Pair}
 use Rattle.gate.specs.Passing.{Passed}
+use Rattle.station.specs.declared.mark.Mark.TheVariants as mark
+use Rattle.context.specs.declared.errand.Awaited.TheVariants.{GprsDetach}
+use Rattle.context.specs.declared.errand.Errand.TheVariants as errand
+use Rattle.context.specs.declared.errand.Open.{Open}
+use Rattle.context.specs.declared.errand.Verdict.TheVariants as verdict
+use Rattle.sgsn.specs.Detaching.{detach_denial}
+use Rattle.sgsn.specs.Requesting.{request_denial}
+use Rattle.examples.specs.Episodes.{vlr_11, mobile, begun, attach, served, accepted_after, unanswered_for, frame_ticks, Held, Holds}
 
 pub data Row : Type 0 where
   -- a digit count and a value, and the octets of that IMSI
@@ -23,6 +31,10 @@ pub data Row : Type 0 where
   a_fault : List ℕ → ℕ → ℕ → Row
   -- the stamps of frames of one pair that come to a new gate one after another, and what each take answers
   a_gate : List ℕ → List (Option ℕ) → Row
+  -- each time from the request on: after how many ticks the VLR's accept is taken, and what is held of the mobile then
+  an_accept : List (ℕ × Held) → Row
+  -- the kind of a detach that no VLR answers, the ticks it is watched for, the ticks at which its frames go out, and what is held of the mobile after how many
+  a_detach : ℕ → ℕ → List ℕ → List (ℕ × Held) → Row
 
 -- a frame from node 1 to node 11 with this stamp: a RESET
 abbrev pub stamped : ℕ → List ℕ
@@ -41,10 +53,16 @@ Stands (an_imsi k v os) = imsi.Spells k v os × (imsi_in os ≡ Some (k, v))
 Stands (a_message m os) = Spells m os × (message_at os 0 ≡ Ok m)
 Stands (a_fault os n p) = (d : Fault) × (message_at os 0 ≡ Err d) × (fault_number d.kind ≡ n) × (d.place ≡ p)
 Stands (a_gate ks rs) = Offered [] (map stamped ks) (map (option_map stamped) rs)
+Stands (an_accept hs) = (request_denial begun mobile attach ≡ None) × Holds accepted_after hs
+Stands (a_detach k n ts hs) = (detach_denial served mobile k ≡ None) × (frame_ticks k n ≡ ts) × Holds (unanswered_for k) hs
 
 abbrev pub Stand : List Row → Type 0
 Stand [] = Unit {0}
 Stand (r ∷ rs) = Stands r × Stand rs
+
+-- the detach of kind 1 without a verdict yet: its last frame has one tick left, and no other follows
+abbrev pub told_last : Open
+told_last = record { vlr = vlr_11; stamp = 5; ticks = 1; awaited = GprsDetach ByMobile 0 }
 
 abbrev pub rows : List Row
 rows =
@@ -53,5 +71,7 @@ rows =
     ∷ a_message (GprsDetachIndication (record { digits = 6; value = 262019 }) ByMobile) (0x0E ∷ 0x01 ∷ 0x04 ∷ 0x21 ∷ 0x26 ∷ 0x10 ∷ 0xF9 ∷ 0x09 ∷ 0x01 ∷ 0x02 ∷ [])
     ∷ a_fault (0x10 ∷ []) 23 0
     ∷ a_fault (0x0E ∷ 0x01 ∷ 0x04 ∷ 0x21 ∷ 0x26 ∷ 0x10 ∷ 0xE9 ∷ 0x09 ∷ 0x01 ∷ 0x02 ∷ []) 26 3
+    ∷ an_accept ((9, (true, mark.Confirmed vlr_11, errand.Ended verdict.Done)) ∷ (10, (true, mark.Unsure vlr_11, errand.Ended verdict.NotResponding)) ∷ [])
+    ∷ a_detach 1 32 (0 ∷ 8 ∷ 16 ∷ 24 ∷ []) ((31, (true, mark.Unsure vlr_11, errand.Open told_last)) ∷ (32, (false, mark.Unsure vlr_11, errand.Ended verdict.NotResponding)) ∷ [])
     ∷ a_gate (5 ∷ 4 ∷ 5 ∷ 6 ∷ []) (Some 5 ∷ None ∷ None ∷ Some 6 ∷ [])
     ∷ []

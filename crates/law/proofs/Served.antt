@@ -17,7 +17,7 @@ use Rattle.context.specs.declared.errand.Open.{Open}
 use Rattle.context.specs.Contexts.{has_voice}
 use Rattle.context.specs.Errands.{is_open}
 use Rattle.context.specs.Paging.{moves_to, names}
-use Rattle.context.specs.Sound.{sound, sound_mark, sound_errand, sound_awaited}
+use Rattle.context.specs.Sound.{sound, sound_mark, sound_errand, sound_awaited, timed}
 use Rattle.sgsn.specs.Fitting.{fits_in, if_named, waits_for}
 use Rattle.law.specs.Sound.{asked_in, update_stamp}
 
@@ -63,5 +63,5 @@ asking_served vs r a n f h = by_errand r.errand h (and_parts (sound_mark r.mark 
 
     by_errand : (e : Errand) → asked_in a e ≡ Some n → sound_errand e r ≡ true → r.attached ≡ true
     by_errand errand.Idle k t = absurd (none-some n k)
-    by_errand (errand.Open o) k t = by_awaited o o.awaited (same_node o.vlr.node a) k t
+    by_errand (errand.Open o) k t = by_awaited o o.awaited (same_node o.vlr.node a) k (and_parts (sound_awaited o.awaited r) (timed o) t).0
     by_errand (errand.Ended w) k t = absurd (none-some n k)

@@ -1,3 +1,4 @@
+pub mod Awaits
 pub mod Delivers
 pub mod Fits
 pub mod Keeps

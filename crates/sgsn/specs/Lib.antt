@@ -1,3 +1,4 @@
+pub mod Awaiting
 pub mod Delivering
 pub mod Detaching
 pub mod Enrolling

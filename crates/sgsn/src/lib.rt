@@ -1,6 +1,7 @@
 // An SGSN: what it keeps of each mobile and of each of its VLRs, its calls, and what a frame from a VLR does.
 #![tactic(auto)]
 
+pub mod awaiting;
 pub mod delivering;
 pub mod detaching;
 pub mod enrolling;

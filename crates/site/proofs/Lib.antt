@@ -1,3 +1,5 @@
+pub mod ByHand
 pub mod Makes
 pub mod OneVlr
 pub mod Places
+pub mod Waits

@@ -1,8 +1,8 @@
 -- A call at the VLR that stands at a place is a call at one of the VLRs.
-use Rattle.std.proofs.Common.{◌≡◌, ℕ, suc, ◌<◌, Bool, true, false, nat_lt, cond, List, [], ◌∷◌, length, map, take, drop, get_or, Some, None, Option, sym, refl, ap, subst, ◌∙◌, arith}
+use Rattle.std.proofs.Common.{◌≡◌, ℕ, suc, ◌<◌, true, false, nat_lt, cond, List, [], ◌∷◌, length, take, drop, get_or, Some, None, Option, sym, refl, subst, ◌∙◌, arith}
 use Rattle.std.proofs.lemmas.List.{set_split, length-map}
 use Rattle.std.proofs.lemmas.List.Folds.{list_any_at}
-use Rattle.std.specs.List.{list_any, position}
+use Rattle.std.specs.List.{position}
 use Rattle.elements.specs.declared.node.NodeNumber.{NodeNumber}
 use Rattle.elements.specs.Nodes.{same_node}
 use Rattle.carrier.specs.Nodes.{same_node_lem}

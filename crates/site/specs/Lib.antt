@@ -1,3 +1,4 @@
+pub mod ByHand
 pub mod Making
 pub mod Registers
 pub mod Sites

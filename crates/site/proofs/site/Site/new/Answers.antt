@@ -5,7 +5,6 @@ use native.Mathlib.Nat.{sub-zero}
 use Rattle.sgsn.specs.State.{state_of, vlrs_of}
 use Rattle.sgsn.specs.Making.{Made}
 use Rattle.vlr.specs.Making.{new_state}
-use Rattle.site.specs.Making.{SiteMade}
 use Rattle.site.specs.Sites.{states_of}
 use Rattle.site.proofs.Makes.{by_numbers, refused}
 use Rattle.site.proofs.site.Site.new.Goals as goal
