@@ -1,22 +1,15 @@
-// The site at work, and what is printed of it.
+// The shift, line by line.
 use crate::command::{Command, Numbers, command_in, text_in};
 use crate::deed::{Deed, Takes};
 use crate::heading::{Heading, Turn};
-use crate::ladder::{Fate, Rung};
 use crate::mistake::{LineError, Mistake};
 use crate::place::Place;
-use crate::table::{Count, HEAD, Row, marked};
 use crate::told::Told;
 use elements::node::NodeNumber;
-use law::call::{Answer, Call};
+use law::call::Answer;
 use site::making::SiteError;
-use station::mark::Mark;
 use std::alloc::{AllocError, Global};
-use std::io;
 use words::counting::count;
-
-// So many ticks after its call at most, a request or detach has its verdict.
-const LAST_TICKS: usize = 32;
 
 #[derive(Drop)]
 pub(crate) struct Bench {
@@ -132,79 +125,7 @@ impl Bench {
             return Ok(());
         };
         place.settle_all(rt)?;
-        place.show_waiting(rt)?;
-        place.show_table(rt)?;
+        place.show_end(rt)?;
         Ok(())
-    }
-}
-
-impl Place {
-    // Makes a call and shows it.
-    fn call(&mut self, rt: &HostRuntime, heading: Heading<'_>, call: Call) -> io::Result<Answer> {
-        let made = self.make(call);
-        let is_quiet = heading.may_be_quiet(call)
-            && self.unseen().is_empty()
-            && made.answer == Answer::Done;
-        if !is_quiet {
-            println!(rt; "{heading}: {}", Told(made.answer))?;
-        }
-        for sighting in self.unseen() {
-            if let Some(rung) = self.rung(*sighting, made) {
-                println!(rt; "{rung}")?;
-            }
-        }
-        self.all_seen();
-        Ok(made.answer)
-    }
-
-    // Ticks until each verdict stands, and settles what is owed.
-    fn settle_all(&mut self, rt: &HostRuntime) -> io::Result<()> {
-        let node = self.sgsn().sender.own;
-        for i in 0..LAST_TICKS {
-            if !self
-                .sgsn()
-                .table()
-                .iter()
-                .any(|context| context.errand.is_open())
-            {
-                break;
-            }
-            let turn = Turn {
-                nth: i + 1,
-                of: LAST_TICKS,
-            };
-            self.call(rt, Heading::LastTick(turn), Call::Tick { node })?;
-        }
-        for i in 0..self.sgsn().table().len() {
-            if let Some(imsi) = self.owed(i) {
-                self.call(rt, Heading::LastSettle(imsi), Call::Settle { imsi })?;
-            }
-        }
-        Ok(())
-    }
-
-    // The frames that nobody took.
-    fn show_waiting(&self, rt: &HostRuntime) -> io::Result<()> {
-        for datagram in self.waiting() {
-            let rung = Rung {
-                sgsn: self.sgsn().sender.own,
-                fate: Fate::Waits,
-                datagram: *datagram,
-            };
-            println!(rt; "{rung}")?;
-        }
-        Ok(())
-    }
-
-    fn show_table(&self, rt: &HostRuntime) -> io::Result<()> {
-        let table = self.sgsn().table();
-        println!(rt; "{HEAD}")?;
-        for context in table {
-            println!(rt; "{}", Row(*context))?;
-        }
-        for peer in self.sgsn().peers() {
-            println!(rt; "{}", Count::at(peer.vlr, table))?;
-        }
-        println!(rt; "no VLR: {}", marked(table, Mark::None))
     }
 }

@@ -1,6 +1,5 @@
 // Which call an answer is for.
 use imsi::Imsi;
-use law::call::Call;
 use std::fmt;
 use words::in_words::InWords;
 
@@ -30,13 +29,11 @@ pub(crate) enum Heading<'a> {
 }
 
 impl Heading<'_> {
-    // Ticks that send nothing are shown only where the last of them ends.
-    pub(crate) fn may_be_quiet(&self, call: Call) -> bool {
-        match *self {
-            Heading::Turn { turn, .. } | Heading::LastTick(turn) => {
-                matches!(call, Call::Tick { .. }) && turn.nth < turn.of
-            }
-            _ => false,
+    // Does no call of the same sort follow it?
+    pub(crate) fn is_last(self) -> bool {
+        match self {
+            Heading::Turn { turn, .. } | Heading::LastTick(turn) => turn.nth == turn.of,
+            Heading::Line { .. } | Heading::LastSettle(_) => true,
         }
     }
 }

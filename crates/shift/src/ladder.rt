@@ -1,4 +1,5 @@
 // Frames between the SGSN, on the left, and its VLRs.
+use crate::tally::Event;
 use carrier::datagram::Datagram;
 use elements::node::NodeNumber;
 use frames::frame::Frame;
@@ -16,8 +17,6 @@ pub(crate) enum Fate {
     // the net gave it, and the gate did not
     Dropped,
     Lost,
-    // nobody took it
-    Waits,
 }
 
 impl Fate {
@@ -27,7 +26,15 @@ impl Fate {
             Fate::Taken => "taken",
             Fate::Dropped => "dropped",
             Fate::Lost => "lost",
-            Fate::Waits => "waits",
+        }
+    }
+
+    pub(crate) fn event(self) -> Event {
+        match self {
+            Fate::Sent => Event::Sent,
+            Fate::Taken => Event::Taken,
+            Fate::Dropped => Event::Dropped,
+            Fate::Lost => Event::Lost,
         }
     }
 
@@ -38,7 +45,6 @@ impl Fate {
             Fate::Taken => "====>",
             Fate::Dropped => "===| ",
             Fate::Lost => "--x  ",
-            Fate::Waits => "- - >",
         }
     }
 
@@ -48,7 +54,6 @@ impl Fate {
             Fate::Taken => "<====",
             Fate::Dropped => " |===",
             Fate::Lost => "  x--",
-            Fate::Waits => "< - -",
         }
     }
 }

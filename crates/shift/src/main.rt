@@ -9,7 +9,9 @@ mod heading;
 mod ladder;
 mod mistake;
 mod place;
+mod showing;
 mod table;
+mod tally;
 mod told;
 mod words_in;
 

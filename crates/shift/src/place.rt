@@ -1,8 +1,11 @@
 // The site of the shift.
 use crate::command::Numbers;
 use crate::ladder::{Fate, Rung};
+use crate::tally::Tally;
 use carrier::datagram::Datagram;
-use elements::node::NodeNumber;
+use context::context::Context;
+use directory::table::look;
+use elements::node::{NodeNumber, SgsnNumber};
 use gate::carrying::Gate;
 use imsi::Imsi;
 use law::call::{Answer, Call};
@@ -10,10 +13,12 @@ use sgsn::sgsn::Sgsn;
 use site::making::SiteError;
 use site::site::Site;
 use slip::carrying::Slip;
+use station::mark::Mark;
 use station::receiving::Delivery;
 use std::alloc::Global;
 use watch::carrying::Watched;
 use watch::log::Sighting;
+use words::counting::count;
 
 // The log stands below the gate, so that a frame that the gate drops is seen too.
 #[derive(Drop)]
@@ -21,26 +26,55 @@ pub(crate) struct Place {
     site: Site<Gate<Watched<Slip>>>,
     // so many sightings were shown
     shown: usize,
+    // so many takes were made, one for each octet of the script
+    takes: u64,
+    pub(crate) tally: Tally,
 }
 
-// A call that was made: what it answers, and the frame that no longer waits since, if a take was given nothing.
+// A call that was made.
 #[derive(Clone, Copy)]
 pub(crate) struct Made {
     pub(crate) answer: Answer,
+    // which take it made of the net, if it made one
+    pub(crate) take: Option<u64>,
+    // the frame that no longer waits since, where a take was given nothing
     missing: Option<Datagram>,
 }
 
 impl Place {
-    // The carrier is empty: with `make` and nothing else the site keeps to the law of its tables at each line.
+    // Over a net in which nothing waits yet. All calls of the shift are made by `make` below, at this one site, and nothing else
+    // changes it: so the law of the site's tables, which `Site::make` promises, holds at each line that is shown.
     pub(crate) fn new(heap: Global, numbers: &Numbers, script: &[u8]) -> Result<Place, SiteError> {
         let slip = Slip::new(heap, script)?;
         let carrier = Gate::new(Watched::new(heap, slip));
         let site = Site::new(heap, numbers.sgsn, &numbers.vlrs, carrier)?;
-        Ok(Place { site, shown: 0 })
+        Ok(Place {
+            site,
+            shown: 0,
+            takes: 0,
+            tally: Tally::new(),
+        })
     }
 
     pub(crate) fn sgsn(&self) -> &Sgsn {
         self.site.sgsn()
+    }
+
+    // Is a request or detach without verdict?
+    pub(crate) fn awaits_verdict(&self) -> bool {
+        self.sgsn()
+            .table()
+            .iter()
+            .any(|context| context.errand.is_open())
+    }
+
+    // What the VLR that the mark names says of the mobile itself.
+    pub(crate) fn mark_at_vlr(&self, context: Context) -> Option<Mark<SgsnNumber>> {
+        let number = context.mark.node()?;
+        let mut vlrs = self.site.vlrs().iter();
+        let vlr = vlrs.find(|vlr| vlr.sender.own == number.node)?;
+        let record = look(&vlr.places, vlr.held, context.imsi)?;
+        Some(record.mark)
     }
 
     // The mobile of the record at `i`, if it is owed a reply.
@@ -75,7 +109,7 @@ impl Place {
             .copied()
     }
 
-    // Makes a call, by the site's one function for all calls.
+    // Makes a call.
     pub(crate) fn make(&mut self, call: Call) -> Made {
         let oldest = match call {
             Call::Deliver { node } => self.oldest_for(node),
@@ -88,7 +122,22 @@ impl Place {
         } else {
             None
         };
-        Made { answer, missing }
+        let take = self.count_take();
+        Made {
+            answer,
+            take,
+            missing,
+        }
+    }
+
+    // Which take was the one that was seen since, if there was one. A call takes once at most.
+    fn count_take(&mut self) -> Option<u64> {
+        let sightings = &mut self.unseen().iter();
+        if !sightings.any(|sighting| matches!(sighting, Sighting::Take { .. })) {
+            return None;
+        }
+        count(&mut self.takes);
+        Some(self.takes)
     }
 
     // What was seen since it was shown last.
@@ -106,25 +155,30 @@ impl Place {
         self.site.carrier().below.log.missed
     }
 
-    // What became of a frame in this call.
-    pub(crate) fn rung(&self, sighting: Sighting, made: Made) -> Option<Rung> {
-        let (fate, datagram) = match sighting {
+    // What became of the frame that was seen there, in this call.
+    pub(crate) fn rung(&self, i: usize, made: Made) -> Option<Rung> {
+        let is_nothing = made.answer == Answer::Delivered(Delivery::Nothing);
+        let (fate, datagram) = match *self.unseen().get(i)? {
             Sighting::Put(frame) if self.waits(frame) => (Fate::Sent, frame),
             Sighting::Put(frame) => (Fate::Lost, frame),
             Sighting::Take { given: None, .. } => (Fate::Lost, made.missing?),
             Sighting::Take {
                 given: Some(frame),
                 ..
-            } if made.answer == Answer::Delivered(Delivery::Nothing) => (Fate::Dropped, frame),
+            } if is_nothing => (Fate::Dropped, frame),
             Sighting::Take {
                 given: Some(frame),
                 ..
             } => (Fate::Taken, frame),
         };
-        Some(Rung {
-            sgsn: self.site.sgsn().sender.own,
+        Some(self.rung_of(fate, datagram))
+    }
+
+    pub(crate) fn rung_of(&self, fate: Fate, datagram: Datagram) -> Rung {
+        Rung {
+            sgsn: self.sgsn().sender.own,
             fate,
             datagram,
-        })
+        }
     }
 }

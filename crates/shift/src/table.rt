@@ -1,6 +1,6 @@
 // The SGSN's table, for planners.
 use context::context::Context;
-use elements::node::VlrNumber;
+use elements::node::{SgsnNumber, VlrNumber};
 use imsi::Imsi;
 use station::mark::Mark;
 use std::fmt;
@@ -8,15 +8,19 @@ use words::in_words::InWords;
 
 const LONGEST_IMSI: usize = 15;
 
-pub(crate) const HEAD: &str = "IMSI             mark       VLR  area        class  packet service";
+pub(crate) const HEAD: &str =
+    "IMSI             mark       VLR  its own mark  area        class  packet service";
 
-// One mobile, under the head.
+// One mobile, under the head, with the mark that the VLR itself has of it.
 #[derive(Clone, Copy)]
-pub(crate) struct Row(pub(crate) Context);
+pub(crate) struct Row {
+    pub(crate) context: Context,
+    pub(crate) at_vlr: Option<Mark<SgsnNumber>>,
+}
 
 impl fmt::Display for Row {
     fn fmt<W: fmt::Write>(&self, f: &mut fmt::Formatter<W>) -> fmt::Result {
-        let Row(context) = *self;
+        let Row { context, at_vlr } = *self;
         write!(
             f,
             "{}  {:<9}  ",
@@ -27,6 +31,7 @@ impl fmt::Display for Row {
             Some(vlr) => write!(f, "{:<3}  ", vlr.node.number)?,
             None => f.write_str("-    ")?,
         }
+        write!(f, "{:<12}  ", at_vlr.map_or("-", name_of))?;
         match context.area {
             Some(area) => write!(f, "{}  ", InWords(area))?,
             None => f.write_str("-           ")?,
@@ -40,7 +45,7 @@ impl fmt::Display for Row {
     }
 }
 
-fn name_of(mark: Mark<VlrNumber>) -> &'static str {
+fn name_of<N: Copy>(mark: Mark<N>) -> &'static str {
     match mark {
         Mark::None => "None",
         Mark::Confirmed(_) => "Confirmed",

@@ -8,6 +8,19 @@ use words::in_words::InWords;
 #[derive(Clone, Copy)]
 pub(crate) struct Told(pub(crate) Answer);
 
+// Which take of the net it was, if it was one.
+#[derive(Clone, Copy)]
+pub(crate) struct ByTake(pub(crate) Option<u64>);
+
+impl fmt::Display for ByTake {
+    fn fmt<W: fmt::Write>(&self, f: &mut fmt::Formatter<W>) -> fmt::Result {
+        match self.0 {
+            Some(take) => write!(f, " (take {take})"),
+            None => Ok(()),
+        }
+    }
+}
+
 impl fmt::Display for Told {
     fn fmt<W: fmt::Write>(&self, f: &mut fmt::Formatter<W>) -> fmt::Result {
         match self.0 {
