@@ -47,20 +47,6 @@ harms m (ResetAcknowledge e) = false
 harms m (GprsDetachAcknowledge i t) = false
 harms m (ImsiDetachAcknowledge i t) = false
 
-abbrev pub is_reset : Message → Bool
-is_reset (Reset e) = true
-is_reset (PagingFailure i c) = false
-is_reset (MobileStatus i c) = false
-is_reset (LuRequest i u o a c) = false
-is_reset (GprsDetachIndication i t) = false
-is_reset (ImsiDetachIndication i t) = false
-is_reset (Paging i t c) = false
-is_reset (LuAccept i a) = false
-is_reset (LuReject i c) = false
-is_reset (ResetAcknowledge e) = false
-is_reset (GprsDetachAcknowledge i t) = false
-is_reset (ImsiDetachAcknowledge i t) = false
-
 abbrev pub is_acknowledgement : Message → Bool
 is_acknowledgement (ResetAcknowledge e) = true
 is_acknowledgement (Reset e) = false
