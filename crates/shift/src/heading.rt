@@ -24,18 +24,8 @@ pub(crate) enum Heading<'a> {
         turn: Turn,
     },
     // after the last line
-    LastTick(Turn),
+    LastTick(usize),
     LastSettle(Imsi),
-}
-
-impl Heading<'_> {
-    // Does no call of the same sort follow it?
-    pub(crate) fn is_last(self) -> bool {
-        match self {
-            Heading::Turn { turn, .. } | Heading::LastTick(turn) => turn.nth == turn.of,
-            Heading::Line { .. } | Heading::LastSettle(_) => true,
-        }
-    }
 }
 
 impl fmt::Display for Heading<'_> {
@@ -47,7 +37,7 @@ impl fmt::Display for Heading<'_> {
                 words,
                 turn,
             } => write!(f, "line {number}: {words}, {} of {}", turn.nth, turn.of),
-            Heading::LastTick(turn) => write!(f, "end: tick {} of {}", turn.nth, turn.of),
+            Heading::LastTick(nth) => write!(f, "end: tick {nth}"),
             Heading::LastSettle(imsi) => write!(f, "end: settle {}", InWords(imsi)),
         }
     }

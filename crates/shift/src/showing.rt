@@ -1,5 +1,5 @@
 // What is printed of the site at work.
-use crate::heading::{Heading, Turn};
+use crate::heading::Heading;
 use crate::ladder::{Fate, Rung};
 use crate::place::{Made, Place};
 use crate::table::{Count, HEAD, Row, marked};
@@ -34,8 +34,13 @@ impl Place {
 
     // A tick that sends nothing, and is not the last of several.
     fn is_quiet(&self, heading: Heading<'_>, call: Call, answer: Answer) -> bool {
+        let is_last = match heading {
+            Heading::Line { .. } | Heading::LastSettle(_) => true,
+            Heading::Turn { turn, .. } => turn.nth == turn.of,
+            Heading::LastTick(_) => !self.awaits_verdict(),
+        };
         matches!(call, Call::Tick { .. })
-            && !heading.is_last()
+            && !is_last
             && answer == Answer::Done
             && self.unseen().is_empty()
     }
@@ -59,11 +64,7 @@ impl Place {
             if !self.awaits_verdict() {
                 break;
             }
-            let turn = Turn {
-                nth: i + 1,
-                of: LAST_TICKS,
-            };
-            self.call(rt, Heading::LastTick(turn), Call::Tick { node })?;
+            self.call(rt, Heading::LastTick(i + 1), Call::Tick { node })?;
         }
         for i in 0..self.sgsn().table().len() {
             if let Some(imsi) = self.owed(i) {
