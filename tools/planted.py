@@ -112,7 +112,7 @@ def refused_by(crate, said):
     return f"{where}: {clause_of(fact.group(1) or fact.group(2))}" if fact else where
 
 
-def shortened(old, new, most=64, around=16):
+def shortened(old, new, most=48, around=16):
     """Both texts, without most of what they share at the ends where they are long."""
     if max(len(old), len(new)) <= most:
         return old, new
