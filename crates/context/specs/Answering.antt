@@ -5,7 +5,7 @@ use Rattle.elements.specs.declared.code.RejectCause.{RejectCause}
 use Rattle.elements.specs.declared.node.VlrNumber.{VlrNumber}
 use Rattle.elements.specs.Nodes.{same_node}
 use Rattle.messages.specs.declared.message.Message.{Message}
-use Rattle.messages.specs.declared.message.Message.TheVariants.{Paging, PagingFailure, MobileStatus, LuRequest, LuAccept, LuReject, Reset, ResetAcknowledge, GprsDetachIndication, GprsDetachAcknowledge, ImsiDetachIndication, ImsiDetachAcknowledge}
+use Rattle.messages.specs.declared.message.Message.TheVariants.{LuAccept, LuReject, GprsDetachAcknowledge, ImsiDetachAcknowledge}
 use Rattle.station.specs.declared.mark.Mark.TheVariants as mark
 use Rattle.context.specs.declared.context.Context.{Context}
 use Rattle.context.specs.declared.errand.Errand.{Errand}
@@ -23,11 +23,11 @@ is_above (Some m) n = nat_lt m n
 
 -- the VLR serves the mobile; it is sure unless a RESET went there since
 abbrev pub accepted : Open → LocationArea → Option ℕ → Context → Context
-accepted o a reset r = record { imsi = r.imsi; class = r.class; attached = r.attached; mark = cond (is_above reset o.stamp) (mark.Confirmed o.vlr) (mark.Unsure o.vlr); area = Some a; errand = errand.Ended verdict.Done }
+accepted o a reset r = record r { mark = cond (is_above reset o.stamp) (mark.Confirmed o.vlr) (mark.Unsure o.vlr); area = Some a; errand = errand.Ended verdict.Done }
 
 -- no VLR serves the mobile any more, and so it ended
 abbrev pub let_go : Bool → Verdict → Context → Context
-let_go stays v r = record { imsi = r.imsi; class = r.class; attached = stays; mark = mark.None; area = r.area; errand = errand.Ended v }
+let_go stays v r = record r { attached = stays; mark = mark.None; errand = errand.Ended v }
 
 -- only a location update is accepted
 abbrev pub on_accept : Open → Awaited → Option ℕ → Context → Context
@@ -59,14 +59,7 @@ matched o reset (LuAccept i a) r = on_accept o o.awaited reset r
 matched o reset (LuReject i c) r = on_reject c o.awaited r
 matched o reset (GprsDetachAcknowledge i t) r = on_gprs_acknowledge o.awaited r
 matched o reset (ImsiDetachAcknowledge i t) r = on_imsi_acknowledge o.awaited r
-matched o reset (Paging i t c) r = r
-matched o reset (PagingFailure i c) r = r
-matched o reset (MobileStatus i c) r = r
-matched o reset (LuRequest i u w a c) r = r
-matched o reset (Reset e) r = r
-matched o reset (ResetAcknowledge e) r = r
-matched o reset (GprsDetachIndication i t) r = r
-matched o reset (ImsiDetachIndication i t) r = r
+matched o reset k r = r
 
 -- the answer is this VLR's, and answers this stamp
 abbrev pub is_answer : Open → VlrNumber → ℕ → Bool

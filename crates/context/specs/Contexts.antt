@@ -21,11 +21,11 @@ new_context i c = record { imsi = i; class = c; attached = false; mark = mark.No
 
 -- with packet service
 abbrev pub attached_now : Context → Context
-attached_now r = record { imsi = r.imsi; class = r.class; attached = true; mark = r.mark; area = r.area; errand = r.errand }
+attached_now r = record r { attached = true }
 
 -- no VLR is sure
 abbrev pub doubtful : Context → Context
-doubtful r = record { imsi = r.imsi; class = r.class; attached = r.attached; mark = doubted r.mark; area = r.area; errand = r.errand }
+doubtful r = record r { mark = doubted r.mark }
 
 -- the mark says that this VLR is sure
 abbrev pub sure_at : VlrNumber → Mark VlrNumber → Bool
@@ -39,7 +39,7 @@ doubtful_at v r = cond (sure_at v r.mark) (doubtful r) r
 
 -- the reply was settled
 abbrev pub idle : Context → Context
-idle r = record { imsi = r.imsi; class = r.class; attached = r.attached; mark = r.mark; area = r.area; errand = errand.Idle }
+idle r = record r { errand = errand.Idle }
 
 -- whether the mobile uses voice service
 abbrev pub has_voice : Context → Bool

@@ -1,5 +1,5 @@
 -- What a detach makes of a mobile's record, and what goes to the VLR.
-use Rattle.std.specs.Prelude.{ℕ, true, false, List, [], ◌∷◌, Some, None, Option}
+use Rattle.std.specs.Prelude.{ℕ, true, false, Some, None, Option}
 use Rattle.imsi.specs.declared.Imsi.{Imsi}
 use Rattle.elements.specs.declared.code.GprsDetachType.TheVariants as gprs
 use Rattle.elements.specs.declared.code.ImsiDetachType.TheVariants as imsi
@@ -37,22 +37,13 @@ awaited_by kind.SwitchedOff = None
 -- the VLR is unsure until it acknowledges the frame with this stamp, for which it has 8 ticks
 abbrev pub waiting_for : VlrNumber → Option Awaited → ℕ → Context → Context
 waiting_for v None n r = let_go false verdict.Done r
-waiting_for v (Some a) n r = record { imsi = r.imsi; class = r.class; attached = r.attached; mark = mark.Unsure v; area = r.area; errand = errand.Open (record { vlr = v; stamp = n; ticks = 8; awaited = a }) }
+waiting_for v (Some a) n r = record r { mark = mark.Unsure v; errand = errand.Open (record { vlr = v; stamp = n; ticks = 8; awaited = a }) }
 
 -- where no VLR is marked none needs to be told
-abbrev pub detached_from : Option VlrNumber → DetachKind → ℕ → Context → Context
-detached_from None k n r = let_go false verdict.Done r
-detached_from (Some v) k n r = waiting_for v (awaited_by k) n r
+abbrev pub detached_from : Option VlrNumber → DetachKind → ℕ → Context → Context × Option Outgoing
+detached_from None k n r = (let_go false verdict.Done r, None)
+detached_from (Some v) k n r = (waiting_for v (awaited_by k) n r, Some (record { to = v.node; answers = 0; message = detach_message k r.imsi }))
 
--- the record after the detach, whose frame, if there is one, has this stamp
-abbrev pub detached : DetachKind → ℕ → Context → Context
+-- what a detach makes of the record, and what goes to the VLR that its mark names, with this stamp
+abbrev pub detached : DetachKind → ℕ → Context → Context × Option Outgoing
 detached k n r = detached_from (node_in r.mark) k n r
-
--- the VLR, if one is marked, is told
-abbrev pub detach_to : Option VlrNumber → DetachKind → Context → List Outgoing
-detach_to None k r = []
-detach_to (Some v) k r = record { to = v.node; answers = 0; message = detach_message k r.imsi } ∷ []
-
--- what goes to the VLR that the mark names
-abbrev pub detach_sends : DetachKind → Context → List Outgoing
-detach_sends k r = detach_to (node_in r.mark) k r

@@ -1,5 +1,5 @@
 -- What a page from a VLR makes of a mobile's record, and what is sent for it.
-use Rattle.std.specs.Prelude.{ℕ, Bool, false, not, cond, ◌&&◌, List, [], ◌∷◌, Some, None, Option}
+use Rattle.std.specs.Prelude.{ℕ, Bool, false, not, cond, ◌&&◌, Some, None, Option}
 use Rattle.elements.specs.declared.code.Cause.TheVariants as cause
 use Rattle.elements.specs.declared.node.VlrNumber.{VlrNumber}
 use Rattle.elements.specs.Nodes.{same_node}
@@ -24,21 +24,17 @@ moves_to v r = r.attached && (has_voice r && (not (is_open r.errand) && not (nam
 
 -- The page may be old, so that the VLR that sent it is not sure.
 abbrev pub now_at : VlrNumber → Context → Context
-now_at v r = record { imsi = r.imsi; class = r.class; attached = r.attached; mark = mark.Unsure v; area = r.area; errand = r.errand }
-
--- the record after a page from this VLR
-abbrev pub paged : VlrNumber → Context → Context
-paged v r = cond (moves_to v r) (now_at v r) r
+now_at v r = record r { mark = mark.Unsure v }
 
 -- the VLR that the mark named hears that the mobile is another's
-abbrev pub status_to : Option VlrNumber → Context → List Outgoing
-status_to None r = []
-status_to (Some w) r = record { to = w.node; answers = 0; message = MobileStatus r.imsi cause.MovedToAnotherVlr } ∷ []
+abbrev pub status_to : Option VlrNumber → Context → Option Outgoing
+status_to None r = None
+status_to (Some w) r = Some (record { to = w.node; answers = 0; message = MobileStatus r.imsi cause.MovedToAnotherVlr })
 
 -- a page that cannot be carried out is answered so
-abbrev pub failure_to : VlrNumber → ℕ → Context → List Outgoing
-failure_to v n r = record { to = v.node; answers = n; message = PagingFailure r.imsi cause.NotAttached } ∷ []
+abbrev pub failure_to : VlrNumber → ℕ → Context → Outgoing
+failure_to v n r = record { to = v.node; answers = n; message = PagingFailure r.imsi cause.NotAttached }
 
--- what is sent for a page from this VLR with this stamp
-abbrev pub page_sends : VlrNumber → ℕ → Context → List Outgoing
-page_sends v n r = cond r.attached (cond (moves_to v r) (status_to (node_in r.mark) r) []) (failure_to v n r)
+-- what a page from this VLR with this stamp makes of the record, and what is sent for it
+abbrev pub paged : VlrNumber → ℕ → Context → Context × Option Outgoing
+paged v n r = cond r.attached (cond (moves_to v r) (now_at v r, status_to (node_in r.mark) r) (r, None)) (r, Some (failure_to v n r))

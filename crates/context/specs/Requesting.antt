@@ -1,5 +1,5 @@
 -- What a request makes of a mobile's record, and what goes to the VLR.
-use Rattle.std.specs.Prelude.{ℕ, Bool, true, false, cond, ◌&&◌, ◌||◌, List, [], ◌∷◌, Some, None, Option}
+use Rattle.std.specs.Prelude.{ℕ, Bool, true, false, cond, ◌&&◌, ◌||◌, Some, None, Option}
 use Rattle.elements.specs.declared.code.Class.{Class}
 use Rattle.messages.specs.declared.message.Message.TheVariants.{LuRequest}
 use Rattle.station.specs.declared.mark.Mark.TheVariants as mark
@@ -11,7 +11,7 @@ use Rattle.context.specs.declared.errand.Awaited.TheVariants.{Update}
 use Rattle.context.specs.declared.kind.Request.{Request}
 use Rattle.context.specs.declared.kind.RequestKind.{RequestKind}
 use Rattle.context.specs.declared.kind.RequestKind.TheVariants as kind
-use Rattle.context.specs.Codes.{attaches, update_type, voice_class}
+use Rattle.context.specs.Codes.{attaches, update_type}
 use Rattle.context.specs.Contexts.{sure_at}
 
 -- for voice service, of a mobile that has packet service
@@ -26,21 +26,16 @@ needs_no_frame k q r = is_imsi_attach k && sure_at q.vlr r.mark
 
 -- done at once, and sure as before
 abbrev pub done_at_once : Request → Context → Context
-done_at_once q r = record { imsi = r.imsi; class = r.class; attached = r.attached; mark = r.mark; area = Some q.new_area; errand = errand.Ended verdict.Done }
+done_at_once q r = record r { area = Some q.new_area; errand = errand.Ended verdict.Done }
 
 -- the VLR is unsure until it answers the frame with this stamp, for which it has 10 ticks
 abbrev pub asked : RequestKind → Request → ℕ → Context → Context
-asked k q n r = record { imsi = r.imsi; class = r.class; attached = r.attached || attaches k; mark = mark.Unsure q.vlr; area = r.area; errand = errand.Open (record { vlr = q.vlr; stamp = n; ticks = 10; awaited = Update q.new_area }) }
+asked k q n r = record r { attached = r.attached || attaches k; mark = mark.Unsure q.vlr; errand = errand.Open (record { vlr = q.vlr; stamp = n; ticks = 10; awaited = Update q.new_area }) }
 
--- the record after the request, whose frame, if there is one, has this stamp
-abbrev pub requested : RequestKind → Request → ℕ → Context → Context
-requested k q n r = cond (needs_no_frame k q r) (done_at_once q r) (asked k q n r)
+-- that frame
+abbrev pub update : RequestKind → Class → Request → Context → Outgoing
+update k c q r = record { to = q.vlr.node; answers = 0; message = LuRequest r.imsi (update_type k) q.old_area q.new_area c }
 
--- a mobile without voice service has no class to name, and asks no VLR
-abbrev pub update_for : RequestKind → Request → Context → Option Class → List Outgoing
-update_for k q r None = []
-update_for k q r (Some c) = record { to = q.vlr.node; answers = 0; message = LuRequest r.imsi (update_type k) q.old_area q.new_area c } ∷ []
-
--- what goes to the VLR
-abbrev pub request_sends : RequestKind → Request → Context → List Outgoing
-request_sends k q r = cond (needs_no_frame k q r) [] (update_for k q r (voice_class r.class))
+-- what a request makes of the record of a mobile with voice service of this class, and what goes to the VLR, with this stamp
+abbrev pub requested : RequestKind → Class → Request → ℕ → Context → Context × Option Outgoing
+requested k c q n r = cond (needs_no_frame k q r) (done_at_once q r, None) (asked k q n r, Some (update k c q r))

@@ -13,7 +13,7 @@ use Rattle.context.specs.declared.errand.Awaited.TheVariants.{Update, GprsDetach
 
 -- with nothing changed but its errand
 abbrev pub with_errand : Errand → Context → Context
-with_errand e r = record { imsi = r.imsi; class = r.class; attached = r.attached; mark = r.mark; area = r.area; errand = e }
+with_errand e r = record r { errand = e }
 
 -- whether packet service stays when no answer came
 abbrev pub stays_unanswered : Awaited → Bool → Bool
@@ -23,7 +23,7 @@ stays_unanswered (ImsiDetach s) b = b
 
 -- no answer came in time, and nothing is repeated any more: the VLR stays unsure
 abbrev pub expired : Open → Context → Context
-expired o r = record { imsi = r.imsi; class = r.class; attached = stays_unanswered o.awaited r.attached; mark = r.mark; area = r.area; errand = errand.Ended verdict.NotResponding }
+expired o r = record r { attached = stays_unanswered o.awaited r.attached; errand = errand.Ended verdict.NotResponding }
 
 -- how often it can still be told again
 abbrev pub repeats_of : Awaited → ℕ

@@ -1,7 +1,6 @@
 // What a detach makes of a mobile's record, and what goes to the VLR.
 ghost use Rattle.std.specs.Prelude.{◌≡◌};
-ghost use Rattle.station.specs.Sends.{outgoing_in};
-ghost use Rattle.context.specs.Detaching.{detach_message, awaited_by, detached, detach_sends};
+ghost use Rattle.context.specs.Detaching.{detach_message, awaited_by, detached};
 
 use crate::context::Context;
 use crate::errand::{Awaited, Errand, Open, Verdict};
@@ -65,12 +64,20 @@ impl DetachKind {
 }
 
 impl Context {
-    // The record after the detach, whose frame, if there is one, has this stamp.
-    pub fn detached(self, kind: DetachKind, stamp: u32) -> Context
+    // The record after the detach, and what goes with this stamp to the VLR that the mark names, if it names one.
+    pub fn detached(self, kind: DetachKind, stamp: u32) -> (Context, Option<Outgoing>)
         ensures { result ≡ detached kind stamp self }
     {
-        let (Some(vlr), Some(awaited)) = (self.mark.node(), kind.awaited()) else {
-            return self.let_go(false, Verdict::Done);
+        let Some(vlr) = self.mark.node() else {
+            return (self.let_go(false, Verdict::Done), None);
+        };
+        let told = Outgoing {
+            to: vlr.node,
+            answers: 0,
+            message: kind.message(self.imsi),
+        };
+        let Some(awaited) = kind.awaited() else {
+            return (self.let_go(false, Verdict::Done), Some(told));
         };
         let pending = Open {
             vlr,
@@ -78,22 +85,11 @@ impl Context {
             ticks: DETACH_TICKS,
             awaited,
         };
-        Context {
+        let waiting = Context {
             mark: Mark::Unsure(vlr),
             errand: Errand::Open(pending),
             ..self
-        }
-    }
-
-    // What goes to the VLR that the mark names.
-    pub fn detach_sends(self, kind: DetachKind) -> Option<Outgoing>
-        ensures { outgoing_in result ≡ detach_sends kind self }
-    {
-        let vlr = self.mark.node()?;
-        Some(Outgoing {
-            to: vlr.node,
-            answers: 0,
-            message: kind.message(self.imsi),
-        })
+        };
+        (waiting, Some(told))
     }
 }

@@ -1,7 +1,6 @@
 // What a page from a VLR makes of a mobile's record, and what is sent for it.
-ghost use Rattle.std.specs.Prelude.{◌≡◌, [], ◌∷◌};
-ghost use Rattle.station.specs.Sends.{outgoing_in};
-ghost use Rattle.context.specs.Paging.{moves_to, paged, page_sends};
+ghost use Rattle.std.specs.Prelude.{◌≡◌};
+ghost use Rattle.context.specs.Paging.{moves_to, paged};
 
 use crate::context::Context;
 use elements::code::Cause;
@@ -21,42 +20,37 @@ impl Context {
             && self.mark.node() != Some(vlr)
     }
 
-    // The record after a page from this VLR. The page may be old, so that the VLR is not sure.
-    pub fn paged(self, vlr: VlrNumber) -> Context
-        ensures { result ≡ paged vlr self }
-    {
-        if self.moves_to(vlr) {
-            Context {
-                mark: Mark::Unsure(vlr),
-                ..self
-            }
-        } else {
-            self
-        }
-    }
-
-    // What is sent for a page from this VLR with this stamp: that it cannot be carried out, to that VLR; or that the
-    // mobile is another's, to the VLR that the mark names.
-    pub fn page_sends(self, vlr: VlrNumber, stamp: u32) -> Option<Outgoing>
-        ensures { outgoing_in result ≡ page_sends vlr stamp self }
+    // The record after a page from this VLR with this stamp, and what is sent for it: that it cannot be carried out, to that
+    // VLR; or that the mobile is another's, to the VLR that the mark names. The page may be old, so that its VLR is not sure.
+    pub fn paged(self, vlr: VlrNumber, stamp: u32) -> (Context, Option<Outgoing>)
+        ensures { result ≡ paged vlr stamp self }
     {
         let imsi = self.imsi;
         if !self.attached {
             let cause = Cause::NotAttached;
-            return Some(Outgoing {
+            let failure = Outgoing {
                 to: vlr.node,
                 answers: stamp,
                 message: Message::PagingFailure { imsi, cause },
-            });
+            };
+            return (self, Some(failure));
         }
         if !self.moves_to(vlr) {
-            return None;
+            return (self, None);
         }
+        let after = Context {
+            mark: Mark::Unsure(vlr),
+            ..self
+        };
+        let Some(before) = self.mark.node() else {
+            return (after, None);
+        };
         let cause = Cause::MovedToAnotherVlr;
-        Some(Outgoing {
-            to: self.mark.node()?.node,
+        let status = Outgoing {
+            to: before.node,
             answers: 0,
             message: Message::MobileStatus { imsi, cause },
-        })
+        };
+        (after, Some(status))
     }
 }

@@ -1,11 +1,11 @@
 // What a request makes of a mobile's record.
 ghost use Rattle.std.specs.Prelude.{◌≡◌};
-ghost use Rattle.station.specs.Sends.{outgoing_in};
-ghost use Rattle.context.specs.Requesting.{needs_no_frame, requested, request_sends};
+ghost use Rattle.context.specs.Requesting.{needs_no_frame, requested};
 
 use crate::context::Context;
 use crate::errand::{Awaited, Errand, Open, Verdict};
 use crate::kind::{Request, RequestKind};
+use elements::code::Class;
 use messages::message::Message;
 use station::mark::Mark;
 use station::sending::Outgoing;
@@ -21,16 +21,24 @@ impl Context {
         kind == RequestKind::ImsiAttach && self.mark == Mark::Confirmed(request.vlr)
     }
 
-    // The record after the request, whose frame, if it needs one, has this stamp.
-    pub fn requested(self, kind: RequestKind, request: Request, stamp: u32) -> Context
-        ensures { result ≡ requested kind request stamp self }
+    // The record after the request, and what goes to the VLR with this stamp, if anything: the mobile has voice service of
+    // this class.
+    pub fn requested(
+        self,
+        kind: RequestKind,
+        class: Class,
+        request: Request,
+        stamp: u32,
+    ) -> (Context, Option<Outgoing>)
+        ensures { result ≡ requested kind class request stamp self }
     {
         if self.needs_no_frame(kind, request) {
-            return Context {
+            let done = Context {
                 area: Some(request.new_area),
                 errand: Errand::Ended(Verdict::Done),
                 ..self
             };
+            return (done, None);
         }
         let pending = Open {
             vlr: request.vlr,
@@ -40,32 +48,24 @@ impl Context {
                 new_area: request.new_area,
             },
         };
-        Context {
+        let asked = Context {
             attached: self.attached || kind.attaches(),
             mark: Mark::Unsure(request.vlr),
             errand: Errand::Open(pending),
             ..self
-        }
-    }
-
-    // What goes to the VLR that is to serve the mobile, which has voice service.
-    pub fn request_sends(self, kind: RequestKind, request: Request) -> Option<Outgoing>
-        ensures { outgoing_in result ≡ request_sends kind request self }
-    {
-        if self.needs_no_frame(kind, request) {
-            return None;
-        }
+        };
         let message = Message::LuRequest {
             imsi: self.imsi,
             update: kind.update_type(),
             old_area: request.old_area,
             new_area: request.new_area,
-            class: self.class.voice()?,
+            class,
         };
-        Some(Outgoing {
+        let update = Outgoing {
             to: request.vlr.node,
             answers: 0,
             message,
-        })
+        };
+        (asked, Some(update))
     }
 }

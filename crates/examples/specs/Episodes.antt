@@ -7,12 +7,13 @@ use Rattle.elements.specs.declared.node.SgsnNumber.{SgsnNumber}
 use Rattle.elements.specs.declared.node.VlrNumber.{VlrNumber}
 use Rattle.messages.specs.declared.message.Message.TheVariants.{LuAccept}
 use Rattle.frames.specs.declared.frame.Frame.{Frame}
+use Rattle.station.specs.Calls.{after_in, sends_in}
 use Rattle.station.specs.declared.mark.Mark.{Mark}
 use Rattle.context.specs.declared.context.Context.{Context}
 use Rattle.context.specs.declared.errand.Errand.{Errand}
 use Rattle.context.specs.declared.kind.Request.{Request}
 use Rattle.sgsn.specs.Delivering.{moved_by_frame}
-use Rattle.sgsn.specs.Detaching.{detached, detach_sends}
+use Rattle.sgsn.specs.Detaching.{detached}
 use Rattle.sgsn.specs.Enrolling.{enrolled}
 use Rattle.sgsn.specs.Making.{new_state}
 use Rattle.sgsn.specs.Recovering.{ticked, tick_sends}
@@ -34,7 +35,9 @@ area = record { octets = 0x62 ∷ 0xF2 ∷ 0x10 ∷ 0x00 ∷ 0x01 ∷ [] }
 
 -- the mobile is enrolled, with class A
 abbrev pub begun : State
-begun = enrolled (new_state sgsn_1 (vlr_11 ∷ [])) mobile 1
+begun =
+    let new = new_state sgsn_1 (vlr_11 ∷ []) in
+    after_in new (enrolled new mobile 1)
 
 -- a combined attach
 abbrev pub attach : Request
@@ -42,7 +45,7 @@ attach = record { kind = 1; vlr = vlr_11; old_area = area; new_area = area }
 
 -- its LU Request is the first frame that the SGSN puts, and so has stamp 1
 abbrev pub asked : State
-asked = requested begun mobile attach
+asked = after_in begun (requested begun mobile attach)
 
 -- the VLR accepts what that frame asks
 abbrev pub accept : Frame
@@ -63,7 +66,7 @@ served = settled (accepted_after 1) mobile
 
 -- a detach of this kind, and so many ticks in which no answer comes
 abbrev pub unanswered_for : ℕ → ℕ → State
-unanswered_for k n = later n (detached served mobile k)
+unanswered_for k n = later n (after_in served (detached served mobile k))
 
 -- this tick's number for each frame that it sends, and so on for so many ticks
 abbrev pub sending_ticks : ℕ → ℕ → State → List ℕ
@@ -72,7 +75,7 @@ sending_ticks t (suc n) s = map (λ o. t) (tick_sends s) ++ sending_ticks (suc t
 
 -- at which ticks that detach has a frame sent, 0 being the detach itself
 abbrev pub frame_ticks : ℕ → ℕ → List ℕ
-frame_ticks k n = map (λ o. 0) (detach_sends served mobile k) ++ sending_ticks 1 n (detached served mobile k)
+frame_ticks k n = map (λ o. 0) (sends_in (detached served mobile k)) ++ sending_ticks 1 n (after_in served (detached served mobile k))
 
 -- what an SGSN holds of the mobile: attached or not, its mark, and what became of its request or detach
 abbrev pub Held : Type 0

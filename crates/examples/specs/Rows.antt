@@ -1,5 +1,6 @@
 -- The worked examples as rows of one list.
 use Rattle.std.specs.Prelude.{◌≡◌, true, false, ℕ, List, [], ◌∷◌, map, Some, None, Ok, Err, Option}
+use Rattle.std.specs.Result.{is_ok}
 use Rattle.std.specs.Option.{option_map}
 use Rattle.imsi.specs.Spelling.{imsi_in}
 use Rattle.imsi.specs.Spelling as imsi
@@ -18,8 +19,8 @@ use Rattle.context.specs.declared.errand.Awaited.TheVariants.{GprsDetach}
 use Rattle.context.specs.declared.errand.Errand.TheVariants as errand
 use Rattle.context.specs.declared.errand.Open.{Open}
 use Rattle.context.specs.declared.errand.Verdict.TheVariants as verdict
-use Rattle.sgsn.specs.Detaching.{detach_denial}
-use Rattle.sgsn.specs.Requesting.{request_denial}
+use Rattle.sgsn.specs.Detaching.{detached}
+use Rattle.sgsn.specs.Requesting.{requested}
 use Rattle.examples.specs.Episodes.{vlr_11, mobile, begun, attach, served, accepted_after, unanswered_for, frame_ticks, Held, Holds}
 
 pub data Row : Type 0 where
@@ -53,8 +54,8 @@ Stands (an_imsi k v os) = imsi.Spells k v os × (imsi_in os ≡ Some (k, v))
 Stands (a_message m os) = Spells m os × (message_at os 0 ≡ Ok m)
 Stands (a_fault os n p) = (d : Fault) × (message_at os 0 ≡ Err d) × (fault_number d.kind ≡ n) × (d.place ≡ p)
 Stands (a_gate ks rs) = Offered [] (map stamped ks) (map (option_map stamped) rs)
-Stands (an_accept hs) = (request_denial begun mobile attach ≡ None) × Holds accepted_after hs
-Stands (a_detach k n ts hs) = (detach_denial served mobile k ≡ None) × (frame_ticks k n ≡ ts) × Holds (unanswered_for k) hs
+Stands (an_accept hs) = (is_ok (requested begun mobile attach) ≡ true) × Holds accepted_after hs
+Stands (a_detach k n ts hs) = (is_ok (detached served mobile k) ≡ true) × (frame_ticks k n ≡ ts) × Holds (unanswered_for k) hs
 
 abbrev pub Stand : List Row → Type 0
 Stand [] = Unit {0}

@@ -8,8 +8,8 @@ use Rattle.carrier.specs.Order.{Stamps}
 use Rattle.station.specs.declared.denial.Denial.{Denial}
 use Rattle.station.specs.declared.receiving.Delivery.{Delivery}
 use Rattle.station.specs.declared.receiving.Refusal.{Refusal}
-use Rattle.station.specs.declared.sending.Outgoing.{Outgoing}
-use Rattle.station.specs.Calls.{Decided, Called}
+use Rattle.station.specs.Calls.{Plan, plan, Decides, Does}
+use Rattle.station.proofs.Questions.{unworn}
 use Rattle.station.specs.Receiving.{Received, Asked, moved_by, sends_by}
 use Rattle.station.specs.Rows.{repeat_now}
 use Rattle.station.specs.Sends.{is_worn, Sent}
@@ -17,16 +17,17 @@ use Rattle.sgsn.specs.State as sgsn
 use Rattle.sgsn.specs.Settling.{settling, after_settling}
 use Rattle.sgsn.specs.Delivering as sgsn_deliver
 use Rattle.vlr.specs.State as vlr
-use Rattle.vlr.specs.Calls as vlr_call
 use Rattle.vlr.specs.Enrolling as vlr_enrol
-use Rattle.vlr.specs.Paging.{page_denial, paged, paging}
+use Rattle.vlr.specs.Paging.{paging}
 use Rattle.vlr.specs.Recovering as vlr_recover
 use Rattle.vlr.specs.Delivering as vlr_deliver
+use Rattle.vlr.proofs.Granted.{enrol_granted, page_granted}
+use Rattle.sgsn.specs.Recovering as sgsn_recover
 use Rattle.law.specs.declared.call.Call.{Call}
 use Rattle.law.specs.declared.call.Call.TheVariants as call
 use Rattle.law.specs.declared.call.Answer.{Answer}
 use Rattle.law.specs.Tables.{View}
-use Rattle.law.specs.Steps.{SgsnDecides, SgsnCalls, SgsnSettles, SgsnDelivers, OneVlr, VlrEnrols, VlrCalls, VlrDelivers, AtVlr, AtNode, is_vlr, is_sgsn, Step, New, Events, Came}
+use Rattle.law.specs.Steps.{SgsnDecides, SgsnDoes, SgsnSettles, SgsnDelivers, OneVlr, VlrEnrols, VlrDoes, VlrDelivers, AtVlr, AtNode, is_vlr, is_sgsn, Step, New, Events, Came}
 use Rattle.law.specs.Sound.{Pair}
 use Rattle.law.proofs.Premises.{Sends, SgsnMove}
 use Rattle.law.proofs.Carried.{Carries, unsent, sent, readable, took}
@@ -52,24 +53,24 @@ module _ {C : Type 0} (waiting : C → List (List ℕ)) (latest : C → Stamps) 
 
   -- an SGSN's call
   module _ (x y : View C) (S : StandsAt x) (a : Answer) where
-    sgsn_decides : (denial : Option Denial) (after : sgsn.State) → (denial ≡ None → Keeps x.sgsn after)
-        → (denial ≡ None → (v : vlr.State) → Pair x.sgsn v (waiting x.carrier) (latest x.carrier) → SgsnMove x.sgsn after v (waiting x.carrier) (latest x.carrier) (λ g. ⊥))
-        → SgsnDecides takes puts denial after a x y → StandsAt y
-    sgsn_decides (Some d) after keeps moves D = same_site x.sgsn y.sgsn x.vlrs y.vlrs x.carrier y.carrier D.decided.1 D.vlrs D.carrier S
-    sgsn_decides None after keeps moves D =
+    sgsn_decides : (plan : Result (Plan Unit sgsn.State) Denial) → ((p : Plan Unit sgsn.State) → plan ≡ Ok p → Keeps x.sgsn p.after)
+        → ((p : Plan Unit sgsn.State) → plan ≡ Ok p → (v : vlr.State) → Pair x.sgsn v (waiting x.carrier) (latest x.carrier) → SgsnMove x.sgsn p.after v (waiting x.carrier) (latest x.carrier) (λ g. ⊥))
+        → SgsnDecides takes puts plan a x y → StandsAt y
+    sgsn_decides (Err d) keeps moves D = same_site x.sgsn y.sgsn x.vlrs y.vlrs x.carrier y.carrier D.decided.1 D.vlrs D.carrier S
+    sgsn_decides (Ok p) keeps moves D =
         let ws = waiting x.carrier in
         let ls = latest x.carrier in
-        same_site after y.sgsn x.vlrs y.vlrs x.carrier y.carrier D.decided.1 D.vlrs D.carrier
-        (sgsn_goes x.sgsn x.vlrs ws ls S after (λ b g. ⊥) ws ls (unsent x.sgsn.own ws ls) (keeps refl) (each_map x.vlrs (moves refl) S.each))
+        same_site p.after y.sgsn x.vlrs y.vlrs x.carrier y.carrier D.decided.1 D.vlrs D.carrier
+        (sgsn_goes x.sgsn x.vlrs ws ls S p.after (λ b g. ⊥) ws ls (unsent x.sgsn.own ws ls) (keeps p refl) (each_map x.vlrs (moves p refl) S.each))
 
-    sgsn_calls : (denial : Option Denial) (after : sgsn.State) (os : List Outgoing) → (denial ≡ None → Keeps x.sgsn after)
-        → (denial ≡ None → (v : vlr.State) → Pair x.sgsn v (waiting x.carrier) (latest x.carrier) → SgsnMove x.sgsn after v (waiting x.carrier) (latest x.carrier) (Sends x.sgsn.own x.sgsn.last os v.own))
-        → SgsnCalls takes puts denial after os a x y → StandsAt y
-    sgsn_calls (Some d) after os keeps moves D = same_site x.sgsn y.sgsn x.vlrs y.vlrs x.carrier y.carrier D.made.1 D.vlrs D.made.2 S
-    sgsn_calls None after os keeps moves D =
-        same_site after y.sgsn x.vlrs y.vlrs y.carrier y.carrier D.made.1 D.vlrs refl
-        (sgsn_goes x.sgsn x.vlrs (waiting x.carrier) (latest x.carrier) S after (Sends x.sgsn.own x.sgsn.last os) (waiting y.carrier) (latest y.carrier)
-        (sent waiting latest takes puts K x.sgsn.own x.sgsn.last os x.carrier y.carrier D.made.2) (keeps refl) (each_map x.vlrs (moves refl) S.each))
+    sgsn_does : (plan : Result (Plan Unit sgsn.State) Denial) → ((p : Plan Unit sgsn.State) → plan ≡ Ok p → Keeps x.sgsn p.after)
+        → ((p : Plan Unit sgsn.State) → plan ≡ Ok p → (v : vlr.State) → Pair x.sgsn v (waiting x.carrier) (latest x.carrier) → SgsnMove x.sgsn p.after v (waiting x.carrier) (latest x.carrier) (Sends x.sgsn.own x.sgsn.last p.sends v.own))
+        → SgsnDoes takes puts plan a x y → StandsAt y
+    sgsn_does (Err d) keeps moves D = same_site x.sgsn y.sgsn x.vlrs y.vlrs x.carrier y.carrier D.made.1 D.vlrs D.made.2 S
+    sgsn_does (Ok p) keeps moves D =
+        same_site p.after y.sgsn x.vlrs y.vlrs y.carrier y.carrier D.made.1 D.vlrs refl
+        (sgsn_goes x.sgsn x.vlrs (waiting x.carrier) (latest x.carrier) S p.after (Sends x.sgsn.own x.sgsn.last p.sends) (waiting y.carrier) (latest y.carrier)
+        (sent waiting latest takes puts K x.sgsn.own x.sgsn.last p.sends x.carrier y.carrier D.made.2) (keeps p refl) (each_map x.vlrs (moves p refl) S.each))
 
     sgsn_settles : (i : Imsi) → SgsnSettles takes puts i a x y → StandsAt y
     sgsn_settles i D =
@@ -110,20 +111,20 @@ module _ {C : Type 0} (waiting : C → List (List ℕ)) (latest : C → Stamps) 
   same_vlr : (s : sgsn.State) (earlier : List vlr.State) (v w : vlr.State) (later : List vlr.State) (c d : C) → w ≡ v → d ≡ c → Stands s (earlier ++ v ∷ later) c → Stands s (earlier ++ w ∷ later) d
   same_vlr s earlier v w later c d e g S = same_site s s (earlier ++ v ∷ later) (earlier ++ w ∷ later) c d refl (ap (λ u. earlier ++ u ∷ later) e) g S
 
-  -- a VLR's call that sends
-  module _ (denial : vlr.State → Option Denial) (after : vlr.State → vlr.State) (os : vlr.State → List Outgoing)
-      (goes : (s : sgsn.State) (v : vlr.State) (ws : List (List ℕ)) (ls : Stamps) → Pair s v ws ls → Goes s v (after v) ws ls (Sends v.own v.last (os v) s.own)) where
-    vlr_called : (s : sgsn.State) (earlier : List vlr.State) (v : vlr.State) (later : List vlr.State) (c : C) (w : vlr.State) (d : C) → Stands s (earlier ++ v ∷ later) c
-        → (o : Option Denial) (r : Result Unit Denial) → Called vlr.own_of vlr.last_of puts o tt v (after v) (os v) r c w d → Stands s (earlier ++ w ∷ later) d
-    vlr_called s earlier v later c w d S (Some n) r D = same_vlr s earlier v w later c d D.1 D.2 S
-    vlr_called s earlier v later c w d S None r D =
-        same_vlr s earlier (after v) w later d d D.1 refl
-        (vlr_goes s earlier v later (waiting c) (latest c) S (after v) (Sends v.own v.last (os v)) (waiting d) (latest d)
-        (sent waiting latest takes puts K v.own v.last (os v) c d D.2)
-        (goes s v (waiting c) (latest c) (each_at (λ u. Pair s u (waiting c) (latest c)) earlier v later S.each)))
+  -- a VLR's call that can send
+  module _ (plan : vlr.State → Result (Plan Unit vlr.State) Denial)
+      (goes : (s : sgsn.State) (v : vlr.State) (ws : List (List ℕ)) (ls : Stamps) → Pair s v ws ls → (p : Plan Unit vlr.State) → plan v ≡ Ok p → Goes s v p.after ws ls (Sends v.own v.last p.sends s.own)) where
+    vlr_done : (s : sgsn.State) (earlier : List vlr.State) (v : vlr.State) (later : List vlr.State) (c : C) (w : vlr.State) (d : C) → Stands s (earlier ++ v ∷ later) c
+        → (o : Result (Plan Unit vlr.State) Denial) → plan v ≡ o → (r : Result Unit Denial) → Does vlr.own_of vlr.last_of puts o r v c w d → Stands s (earlier ++ w ∷ later) d
+    vlr_done s earlier v later c w d S (Err n) is r D = same_vlr s earlier v w later c d D.1 D.2 S
+    vlr_done s earlier v later c w d S (Ok p) is r D =
+        same_vlr s earlier p.after w later d d D.1 refl
+        (vlr_goes s earlier v later (waiting c) (latest c) S p.after (Sends v.own v.last p.sends) (waiting d) (latest d)
+        (sent waiting latest takes puts K v.own v.last p.sends c d D.2)
+        (goes s v (waiting c) (latest c) (each_at (λ u. Pair s u (waiting c) (latest c)) earlier v later S.each) p is))
 
-    vlr_calls : (a : Answer) → Kept (λ v. VlrCalls takes puts (denial v) (after v) (os v) a v)
-    vlr_calls a s earlier v later c w d S D = vlr_called s earlier v later c w d S (denial v) D.result D.made
+    vlr_does : (a : Answer) → Kept (λ v. VlrDoes takes puts (plan v) a v)
+    vlr_does a s earlier v later c w d S D = vlr_done s earlier v later c w d S (plan v) refl D.result D.made
 
   vlr_enrolled : (i : Imsi) (cause : ℕ) (s : sgsn.State) (earlier : List vlr.State) (v : vlr.State) (later : List vlr.State) (c : C) → Stands s (earlier ++ v ∷ later) c → Stands s (earlier ++ vlr_enrol.with_enrolled v i cause ∷ later) c
   vlr_enrolled i cause s earlier v later c S =
@@ -132,13 +133,13 @@ module _ {C : Type 0} (waiting : C → List (List ℕ)) (latest : C → Stamps) 
       vlr_goes s earlier v later ws ls S (vlr_enrol.with_enrolled v i cause) (λ b g. ⊥) ws ls (unsent v.own ws ls)
       (inl (vlr_moves.enrolled_moves s v ws ls (each_at (λ u. Pair s u ws ls) earlier v later S.each) i cause))
 
-  vlr_enrols_as : (i : Imsi) (cause : ℕ) (o : Option Denial) (r : Result Unit Denial) (s : sgsn.State) (earlier : List vlr.State) (v : vlr.State) (later : List vlr.State) (c : C) (w : vlr.State) (d : C) → Stands s (earlier ++ v ∷ later) c
-      → Decided o tt v (vlr_enrol.with_enrolled v i cause) r w → d ≡ c → Stands s (earlier ++ w ∷ later) d
-  vlr_enrols_as i cause (Some n) r s earlier v later c w d S D e = same_vlr s earlier v w later c d D.1 e S
-  vlr_enrols_as i cause None r s earlier v later c w d S D e = same_vlr s earlier (vlr_enrol.with_enrolled v i cause) w later c d D.1 e (vlr_enrolled i cause s earlier v later c S)
+  vlr_enrols_as : (i : Imsi) (cause : ℕ) (s : sgsn.State) (earlier : List vlr.State) (v : vlr.State) (later : List vlr.State) (c : C) (w : vlr.State) (d : C) → Stands s (earlier ++ v ∷ later) c
+      → (o : Result (Plan Unit vlr.State) Denial) → vlr_enrol.enrolling v i cause ≡ o → (r : Result Unit Denial) → Decides o r v w → d ≡ c → Stands s (earlier ++ w ∷ later) d
+  vlr_enrols_as i cause s earlier v later c w d S (Err n) is r D e = same_vlr s earlier v w later c d D.1 e S
+  vlr_enrols_as i cause s earlier v later c w d S (Ok p) is r D e = same_vlr s earlier p.after w later c d D.1 e (subst (λ u. Stands s (earlier ++ u.after ∷ later) c) (enrol_granted v i cause p is) (vlr_enrolled i cause s earlier v later c S))
 
   vlr_enrols : (i : Imsi) (cause : ℕ) (a : Answer) → Kept (VlrEnrols takes puts i cause a)
-  vlr_enrols i cause a s earlier v later c w d S D = vlr_enrols_as i cause (vlr_enrol.enrol_denial v i) D.result s earlier v later c w d S D.decided D.carrier
+  vlr_enrols i cause a s earlier v later c w d S D = vlr_enrols_as i cause s earlier v later c w d S (vlr_enrol.enrolling v i cause) refl D.result D.decided D.carrier
 
   -- after a take that gave this, and what it made the VLR send
   vlr_took : (s : sgsn.State) (earlier : List vlr.State) (v : vlr.State) (later : List vlr.State) (c between d : C) → Stands s (earlier ++ v ∷ later) c → (answer : vlr.State → Frame → Delivery) (got : Option (Result Frame Fault)) → Received takes v.own got c between
@@ -187,24 +188,26 @@ module _ {C : Type 0} (waiting : C → List (List ℕ)) (latest : C → Stamps) 
 
   -- each call
   step : (c : Call) (a : Answer) (x y : View C) → StandsAt x → Step takes puts c a x y → StandsAt y
-  step (call.Enrol i code) a x y S D = sgsn_decides x y S a _ _ (keeps_enrolled x.sgsn S.fit i code) (λ d v P. sgsn_moves.enrolled_moves x.sgsn v _ _ S.fit P i code) D
-  step (call.Attach i) a x y S D = sgsn_decides x y S a _ _ (λ d. keeps_attached x.sgsn S.fit i) (λ d v P. sgsn_moves.attached_moves x.sgsn v _ _ S.fit P i) D
-  step (call.Request i q) a x y S D = sgsn_calls x y S a _ _ _ (keeps_requested x.sgsn S.fit i q) (λ d v P. sgsn_moves.requested_moves x.sgsn v _ _ S.fit P i q d) D
-  step (call.Detach i code) a x y S D = sgsn_calls x y S a _ _ _ (λ d. keeps_detached x.sgsn S.fit i code) (λ d v P. sgsn_moves.detached_moves x.sgsn v _ _ S.fit P i code) D
+  step (call.Enrol i code) a x y S D = sgsn_decides x y S a _ (keeps_enrolled x.sgsn S.fit i code) (λ p e v P. sgsn_moves.enrolled_moves x.sgsn v _ _ S.fit P i code p e) D
+  step (call.Attach i) a x y S D = sgsn_decides x y S a _ (keeps_attached x.sgsn S.fit i) (λ p e v P. sgsn_moves.attached_moves x.sgsn v _ _ S.fit P i p e) D
+  step (call.Request i q) a x y S D = sgsn_does x y S a _ (keeps_requested x.sgsn S.fit i q) (λ p e v P. sgsn_moves.requested_moves x.sgsn v _ _ S.fit P i q p e) D
+  step (call.Detach i code) a x y S D = sgsn_does x y S a _ (keeps_detached x.sgsn S.fit i code) (λ p e v P. sgsn_moves.detached_moves x.sgsn v _ _ S.fit P i code p e) D
   step (call.Settle i) a x y S D = sgsn_settles x y S a i D
   step (call.EnrolAtVlr n i cause) a x y S D = at_vlr (is_vlr n.node x.vlrs) n.node (VlrEnrols takes puts i cause) a x y (vlr_enrols i cause a) S D
   step (call.Page n i t ch) a x y S D =
-      at_vlr (is_vlr n.node x.vlrs) n.node (λ b v. VlrCalls takes puts (page_denial v i ch) (paged v) (paging v i t ch) b v) a x y
-      (vlr_calls (λ v. page_denial v i ch) paged (λ v. paging v i t ch) (λ s v ws ls P. inl (vlr_moves.paged_moves s v ws ls P i t ch)) a) S D
+      at_vlr (is_vlr n.node x.vlrs) n.node (λ b v. VlrDoes takes puts (paging v i t ch) b v) a x y
+      (vlr_does (λ v. paging v i t ch) (λ s v ws ls P p e. subst (λ u. Goes s v u.after ws ls (Sends v.own v.last u.sends s.own)) (page_granted v i t ch p e) (inl (vlr_moves.paged_moves s v ws ls P i t ch))) a) S D
   step (call.Lose n) a x y S D =
       at_node (is_sgsn takes puts n x) _ n _ a x y
-      (sgsn_calls x y S a _ _ _ (λ d. keeps_lost x.sgsn S.fit) (λ d v P. sgsn_moves.lost_moves x.sgsn v _ _ S.fit P))
-      (vlr_calls vlr_call.worn_denial vlr_recover.lost vlr_recover.resets (λ s v ws ls P. inr (vlr_moves.lost_restarts s v ws ls P)) a) S D
+      (sgsn_does x y S a (sgsn_recover.losing x.sgsn) (λ p e. subst (λ u. Keeps x.sgsn u.after) (unworn x.sgsn.last (plan (sgsn_recover.lost x.sgsn) (sgsn_recover.resets x.sgsn)) p e) (keeps_lost x.sgsn S.fit))
+      (λ p e v P. subst (λ u. SgsnMove x.sgsn u.after v (waiting x.carrier) (latest x.carrier) (Sends x.sgsn.own x.sgsn.last u.sends v.own)) (unworn x.sgsn.last (plan (sgsn_recover.lost x.sgsn) (sgsn_recover.resets x.sgsn)) p e) (sgsn_moves.lost_moves x.sgsn v _ _ S.fit P)))
+      (vlr_does vlr_recover.losing (λ s v ws ls P p e. subst (λ u. Goes s v u.after ws ls (Sends v.own v.last u.sends s.own)) (unworn v.last (plan (vlr_recover.lost v) (vlr_recover.resets v)) p e) (inr (vlr_moves.lost_restarts s v ws ls P))) a) S D
   step (call.Deliver n) a x y S D = at_node (is_sgsn takes puts n x) (SgsnDelivers takes puts) n (VlrDelivers takes puts) a x y (sgsn_delivers x y S a) (vlr_delivers a) S D
   step (call.Tick n) a x y S D =
       at_node (is_sgsn takes puts n x) _ n _ a x y
-      (sgsn_calls x y S a _ _ _ (λ d. keeps_ticked x.sgsn S.fit) (λ d v P. sgsn_moves.ticked_moves x.sgsn v _ _ S.fit P (vlrs_differ x.sgsn x.vlrs _ _ S)))
-      (vlr_calls vlr_call.worn_denial vlr_recover.ticked vlr_recover.tick_sends (λ s v ws ls P. vlr_ticks (repeat_now v.row) s v ws ls P refl) a) S D
+      (sgsn_does x y S a (sgsn_recover.ticking x.sgsn) (λ p e. subst (λ u. Keeps x.sgsn u.after) (unworn x.sgsn.last (plan (sgsn_recover.ticked x.sgsn) (sgsn_recover.tick_sends x.sgsn)) p e) (keeps_ticked x.sgsn S.fit))
+      (λ p e v P. subst (λ u. SgsnMove x.sgsn u.after v (waiting x.carrier) (latest x.carrier) (Sends x.sgsn.own x.sgsn.last u.sends v.own)) (unworn x.sgsn.last (plan (sgsn_recover.ticked x.sgsn) (sgsn_recover.tick_sends x.sgsn)) p e) (sgsn_moves.ticked_moves x.sgsn v _ _ S.fit P (vlrs_differ x.sgsn x.vlrs _ _ S))))
+      (vlr_does vlr_recover.ticking (λ s v ws ls P p e. subst (λ u. Goes s v u.after ws ls (Sends v.own v.last u.sends s.own)) (unworn v.last (plan (vlr_recover.ticked v) (vlr_recover.tick_sends v)) p e) (vlr_ticks (repeat_now v.row) s v ws ls P refl)) a) S D
 
   -- a new site
   made : (x : View C) → New waiting latest x → StandsAt x

@@ -1,10 +1,9 @@
 -- What each move of an SGSN keeps: its number, its VLRs, and that its records are such as it may keep.
-use Rattle.std.proofs.Common.{◌≡◌, ℕ, ◌+◌, Bool, true, false, ◌||◌, not, List, [], ◌∷◌, map, Ok, Err, Some, None, Option, Result, sym, refl, ap, ◌∙◌, subst, ⊎_elim}
+use Rattle.std.proofs.Common.{◌≡◌, ℕ, ◌+◌, true, List, [], ◌∷◌, map, Ok, Err, Some, None, Option, Result, sym, refl, ap, ◌∙◌, subst, ⊎_elim}
 use Rattle.std.specs.List.{list_all}
 use Rattle.std.proofs.lemmas.Bool.{cases_Bool, cond-true, cond-false, or_left, or_right}
 use Rattle.std.proofs.lemmas.Option.{none-some, same_Some}
 use Rattle.imsi.specs.declared.Imsi.{Imsi}
-use Rattle.imsi.specs.Spelling.{lawful_imsi}
 use Rattle.elements.specs.Nodes.{same_node}
 use Rattle.messages.specs.declared.message.Message.{Message}
 use Rattle.messages.specs.declared.message.Message.TheVariants.{Paging, PagingFailure, MobileStatus, LuRequest, LuAccept, LuReject, Reset, ResetAcknowledge, GprsDetachIndication, GprsDetachAcknowledge, ImsiDetachIndication, ImsiDetachAcknowledge}
@@ -12,31 +11,24 @@ use Rattle.frames.specs.declared.frame.Frame.{Frame}
 use Rattle.carrier.specs.Nodes.{own_node}
 use Rattle.station.specs.declared.denial.Denial.{Denial}
 use Rattle.station.specs.declared.sending.Outgoing.{Outgoing}
-use Rattle.station.specs.Calls.{unless}
+use Rattle.station.specs.Calls.{Plan}
 use Rattle.station.specs.Rows.{reset_taken, acknowledged}
-use Rattle.context.specs.declared.class.ServiceClass.{ServiceClass}
 use Rattle.context.specs.declared.context.Context.{Context}
 use Rattle.context.specs.declared.errand.Verdict.{Verdict}
 use Rattle.context.specs.declared.kind.Request.{Request}
-use Rattle.context.specs.declared.kind.RequestKind.{RequestKind}
-use Rattle.context.specs.declared.kind.DetachKind.{DetachKind}
-use Rattle.context.specs.Codes.{class_in, request_kind_in, detach_kind_in, attaches}
-use Rattle.context.specs.Contexts.{whose, has_voice, new_context, attached_now, doubtful, doubtful_at}
-use Rattle.context.specs.Errands.{owes}
-use Rattle.context.specs.Requesting as context_request
-use Rattle.context.specs.Detaching as context_detach
+use Rattle.context.specs.Contexts.{whose, new_context, attached_now, doubtful, doubtful_at}
 use Rattle.context.specs.Answering.{answered}
-use Rattle.context.specs.Paging.{paged, page_sends}
 use Rattle.sgsn.specs.declared.peer.Peer.{Peer}
 use Rattle.sgsn.specs.Fitting.{is_one_of, fits_in}
 use Rattle.sgsn.specs.Peers.{sent_it, peer_from}
 use Rattle.sgsn.specs.State.{State, vlrs_of, record_at, with_context, with_sent}
-use Rattle.sgsn.specs.Enrolling.{enrol_denial, enrolled_as, enrolled, attached_as, attached}
-use Rattle.sgsn.specs.Requesting.{record_denial, kind_denial, request_denial, requested_as, requested}
-use Rattle.sgsn.specs.Detaching.{detached_as, detached}
+use Rattle.sgsn.specs.Enrolling.{enrolled, attached}
+use Rattle.sgsn.specs.Requesting.{requested}
+use Rattle.sgsn.specs.Detaching.{detached}
 use Rattle.sgsn.specs.Settling.{settled_errand, settled_as, after_settling}
 use Rattle.sgsn.specs.Delivering.{paged_by, answered_by, taken_by, taken, moved_by_frame}
 use Rattle.sgsn.specs.Recovering.{lost, records_ticked, ticked, last_between}
+use Rattle.sgsn.proofs.Granted.{enrol_granted, attach_granted, request_granted, detach_granted}
 use Rattle.sgsn.proofs.Fits.{fits_at, fits_stored, fits_map, fits_new, fits_attached, fits_doubtful, fits_doubtful_at, fits_settled, fits_requested, fits_detached, fits_answered, fits_paged, fits_all_ticked, fits_doubted, vlrs_changed, vlrs_lost, vlrs_ticked}
 use Rattle.law.proofs.Premises.{Fit, rising}
 use Rattle.law.proofs.Quieter.{quieter_map, quieter_doubtful, quieter_doubtful_at}
@@ -52,11 +44,6 @@ pub record Keeps (s t : State) : Type 0 where
 -- so its records are still such as it may keep
 pub still_fit : (s t : State) → Keeps s t → Fit t
 still_fit s t K = record { fits = subst (λ vs. list_all (fits_in vs) t.records ≡ true) (sym K.vlrs) K.fits; rise = K.rise }
-
--- a question was answered by yes, and those behind it too
-pub granted : (b : Bool) (d : Denial) (others : Option Denial) → unless b d others ≡ None → (b ≡ true) × (others ≡ None)
-granted true d others e = (refl, e)
-granted false d others e = absurd (none-some d (sym e))
 
 -- who sent a frame is one of them
 one_of_them : (f : Frame) (ps : List Peer) (p : Peer) → peer_from f ps ≡ Some p → is_one_of (map (λ x. x.vlr) ps) p.vlr ≡ true
@@ -79,47 +66,26 @@ module _ (s : State) (F : Fit s) where
   held : (i : Imsi) (r : Context) → record_at s i ≡ Some r → fits_in (vlrs_of s) r ≡ true
   held i r e = fits_at (vlrs_of s) s.records i r F.fits e
 
-  keeps_enrolled_as : (i : Imsi) (c : Option ServiceClass) → lawful_imsi i.digits i.value ≡ true → Keeps s (enrolled_as s i c)
-  keeps_enrolled_as i None l = unchanged
-  keeps_enrolled_as i (Some c) l = stores (new_context i c) (fits_new (vlrs_of s) i c l)
+  pub keeps_enrolled : (i : Imsi) (code : ℕ) (p : Plan Unit State) → enrolled s i code ≡ Ok p → Keeps s p.after
+  keeps_enrolled i code p e =
+      let G = enrol_granted s i code p e in
+      subst (λ u. Keeps s u.after) G.plan (stores (new_context i G.class) (fits_new (vlrs_of s) i G.class G.lawful))
 
-  pub keeps_enrolled : (i : Imsi) (code : ℕ) → enrol_denial s i code ≡ None → Keeps s (enrolled s i code)
-  keeps_enrolled i code d =
-      let worn = granted _ _ _ d in
-      let listed = granted _ _ _ worn.1 in
-      let lawful = granted _ _ _ listed.1 in
-      keeps_enrolled_as i (class_in code) lawful.0
+  pub keeps_attached : (i : Imsi) (p : Plan Unit State) → attached s i ≡ Ok p → Keeps s p.after
+  keeps_attached i p e =
+      let G = attach_granted s i p e in
+      subst (λ u. Keeps s u.after) G.plan (stores (attached_now G.context) (fits_attached (vlrs_of s) G.context (held i G.context G.stands)))
 
-  keeps_attached_as : (i : Imsi) (o : Option Context) → record_at s i ≡ o → Keeps s (attached_as s o)
-  keeps_attached_as i None e = unchanged
-  keeps_attached_as i (Some r) e = stores (attached_now r) (fits_attached (vlrs_of s) r (held i r e))
+  pub keeps_requested : (i : Imsi) (q : Request) (p : Plan Unit State) → requested s i q ≡ Ok p → Keeps s p.after
+  keeps_requested i q p e =
+      let G = request_granted s i q p e in
+      let fit = fits_requested (vlrs_of s) G.kind G.class q (s.last + 1) G.context (held i G.context G.stands) G.voice G.its_vlr G.attached in
+      subst (λ u. Keeps s u.after) G.plan (sends _ _ fit)
 
-  pub keeps_attached : (i : Imsi) → Keeps s (attached s i)
-  keeps_attached i = keeps_attached_as i (record_at s i) refl
-
-  keeps_requested_of : (i : Imsi) (q : Request) (k : RequestKind) (o : Option Context) → record_at s i ≡ o → record_denial s q k o ≡ None → Keeps s (requested_as s q (Some k) o)
-  keeps_requested_of i q k None e d = unchanged
-  keeps_requested_of i q k (Some r) e d =
-      let voice = granted (has_voice r) _ _ d in
-      let its = granted (is_one_of (vlrs_of s) q.vlr) _ _ voice.1 in
-      let owing = granted (not (owes r.errand)) _ _ its.1 in
-      let has = granted (attaches k || r.attached) _ _ owing.1 in
-      sends (context_request.requested k q (s.last + 1) r) (context_request.request_sends k q r) (fits_requested (vlrs_of s) k q (s.last + 1) r (held i r e) voice.0 its.0 has.0)
-
-  keeps_requested_as : (i : Imsi) (q : Request) (k : Option RequestKind) → kind_denial s i q k ≡ None → Keeps s (requested_as s q k (record_at s i))
-  keeps_requested_as i q None d = unchanged
-  keeps_requested_as i q (Some k) d = keeps_requested_of i q k (record_at s i) refl (granted _ _ _ d).1
-
-  pub keeps_requested : (i : Imsi) (q : Request) → request_denial s i q ≡ None → Keeps s (requested s i q)
-  keeps_requested i q d = keeps_requested_as i q (request_kind_in q.kind) (granted _ _ _ d).1
-
-  keeps_detached_as : (i : Imsi) (k : Option DetachKind) (o : Option Context) → record_at s i ≡ o → Keeps s (detached_as s k o)
-  keeps_detached_as i None o e = unchanged
-  keeps_detached_as i (Some k) None e = unchanged
-  keeps_detached_as i (Some k) (Some r) e = sends (context_detach.detached k (s.last + 1) r) (context_detach.detach_sends k r) (fits_detached (vlrs_of s) k (s.last + 1) r (held i r e))
-
-  pub keeps_detached : (i : Imsi) (code : ℕ) → Keeps s (detached s i code)
-  keeps_detached i code = keeps_detached_as i (detach_kind_in code) (record_at s i) refl
+  pub keeps_detached : (i : Imsi) (code : ℕ) (p : Plan Unit State) → detached s i code ≡ Ok p → Keeps s p.after
+  keeps_detached i code p e =
+      let G = detach_granted s i code p e in
+      subst (λ u. Keeps s u.after) G.plan (sends _ _ (fits_detached (vlrs_of s) G.kind (s.last + 1) G.context (held i G.context G.stands)))
 
   keeps_settled_as : (i : Imsi) (o : Option Context) → record_at s i ≡ o → Keeps s (settled_as s o)
   keeps_settled_as i None e = unchanged
@@ -148,15 +114,15 @@ module _ (s : State) (F : Fit s) where
       }
 
   module _ (f : Frame) (p : Peer) where
-    keeps_paged_by : (i : Imsi) (o : Option Context) → is_one_of (vlrs_of s) p.vlr ≡ true → record_at s i ≡ o → Keeps s (paged_by s f p o)
+    keeps_paged_by : (i : Imsi) (o : Option Context) → is_one_of (vlrs_of s) p.vlr ≡ true → record_at s i ≡ o → Keeps s (paged_by s f p o).after
     keeps_paged_by i None its e = unchanged
-    keeps_paged_by i (Some r) its e = sends (paged p.vlr r) (page_sends p.vlr f.stamp r) (fits_paged (vlrs_of s) p.vlr r (held i r e) its)
+    keeps_paged_by i (Some r) its e = sends _ _ (fits_paged (vlrs_of s) p.vlr f.stamp r (held i r e) its)
 
     keeps_answered_by : (i : Imsi) (o : Option Context) → record_at s i ≡ o → Keeps s (answered_by s f p o)
     keeps_answered_by i None e = unchanged
     keeps_answered_by i (Some r) e = stores (answered p.vlr f.answers p.row.reset f.message r) (fits_answered (vlrs_of s) p.vlr f.answers p.row.reset f.message r (held i r e))
 
-    keeps_taken_by : (m : Message) → is_one_of (vlrs_of s) p.vlr ≡ true → Keeps s (taken_by s f p m)
+    keeps_taken_by : (m : Message) → is_one_of (vlrs_of s) p.vlr ≡ true → Keeps s (taken_by s f p m).after
     keeps_taken_by (Reset e) its =
         record {
           own = refl;
@@ -176,7 +142,7 @@ module _ (s : State) (F : Fit s) where
     keeps_taken_by (ImsiDetachIndication i t) its = keeps_answered_by i (record_at s i) refl
     keeps_taken_by (ImsiDetachAcknowledge i t) its = keeps_answered_by i (record_at s i) refl
 
-  keeps_taken : (f : Frame) (o : Option Peer) → peer_from f s.peers ≡ o → Keeps s (taken s f o)
+  keeps_taken : (f : Frame) (o : Option Peer) → peer_from f s.peers ≡ o → Keeps s (taken s f o).after
   keeps_taken f None e = unchanged
   keeps_taken f (Some p) e = keeps_taken_by f p f.message (one_of_them f s.peers p e)
 

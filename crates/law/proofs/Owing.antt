@@ -5,6 +5,7 @@ use Rattle.std.specs.Option.{option_map}
 use Rattle.std.proofs.lemmas.Bool.Decides.{nat_tests}
 use Rattle.std.proofs.lemmas.List.Sums.{sum_by-cons}
 use Rattle.imsi.specs.declared.Imsi.{Imsi}
+use Rattle.elements.specs.declared.code.Class.{Class}
 use Rattle.elements.specs.declared.node.VlrNumber.{VlrNumber}
 use Rattle.messages.specs.declared.message.Message.{Message}
 use Rattle.directory.specs.Lookup.{at, stored}
@@ -58,11 +59,11 @@ pub answered_whose : (v : VlrNumber) (n : ℕ) (reset : Option ℕ) (k : Message
 answered_whose v n reset k r = grind (arith, nat_tests)
 
 -- neither a page nor a doubt changes what is owed
-pub paged_errand : (v : VlrNumber) (r : Context) → (page.paged v r).errand ≡ r.errand
-paged_errand v r = grind (arith, nat_tests)
+pub paged_errand : (v : VlrNumber) (n : ℕ) (r : Context) → (page.paged v n r).0.errand ≡ r.errand
+paged_errand v n r = grind (arith, nat_tests)
 
-pub paged_whose : (v : VlrNumber) (r : Context) → whose (page.paged v r) ≡ whose r
-paged_whose v r = grind (arith, nat_tests)
+pub paged_whose : (v : VlrNumber) (n : ℕ) (r : Context) → whose (page.paged v n r).0 ≡ whose r
+paged_whose v n r = grind (arith, nat_tests)
 
 pub doubtful_errand : (v : VlrNumber) (r : Context) → (doubtful_at v r).errand ≡ r.errand
 doubtful_errand v r = grind (arith, nat_tests)
@@ -71,22 +72,22 @@ pub doubtful_whose : (v : VlrNumber) (r : Context) → whose (doubtful_at v r) �
 doubtful_whose v r = grind (arith, nat_tests)
 
 -- a request and a detach owe a reply, and are in time
-pub requested_owes : (k : RequestKind) (q : Request) (n : ℕ) (r : Context) → owes (request.requested k q n r).errand ≡ true
-requested_owes k q n r = grind (arith, nat_tests)
+pub requested_owes : (k : RequestKind) (c : Class) (q : Request) (n : ℕ) (r : Context) → owes (request.requested k c q n r).0.errand ≡ true
+requested_owes k c q n r = grind (arith, nat_tests)
 
-pub requested_left : (k : RequestKind) (q : Request) (n : ℕ) (r : Context) (o : Open) → (request.requested k q n r).errand ≡ errand.Open o → InTime 0 o
-requested_left k q n r o e = grind (arith, nat_tests)
+pub requested_left : (k : RequestKind) (c : Class) (q : Request) (n : ℕ) (r : Context) (o : Open) → (request.requested k c q n r).0.errand ≡ errand.Open o → InTime 0 o
+requested_left k c q n r o e = grind (arith, nat_tests)
 
-pub requested_whose : (k : RequestKind) (q : Request) (n : ℕ) (r : Context) → whose (request.requested k q n r) ≡ whose r
-requested_whose k q n r = grind (arith, nat_tests)
+pub requested_whose : (k : RequestKind) (c : Class) (q : Request) (n : ℕ) (r : Context) → whose (request.requested k c q n r).0 ≡ whose r
+requested_whose k c q n r = grind (arith, nat_tests)
 
-pub detached_owes : (k : DetachKind) (n : ℕ) (r : Context) → owes (detach.detached k n r).errand ≡ true
+pub detached_owes : (k : DetachKind) (n : ℕ) (r : Context) → owes (detach.detached k n r).0.errand ≡ true
 detached_owes k n r = grind (arith, nat_tests)
 
-pub detached_left : (k : DetachKind) (n : ℕ) (r : Context) (o : Open) → (detach.detached k n r).errand ≡ errand.Open o → InTime 0 o
+pub detached_left : (k : DetachKind) (n : ℕ) (r : Context) (o : Open) → (detach.detached k n r).0.errand ≡ errand.Open o → InTime 0 o
 detached_left k n r o e = grind (arith, nat_tests)
 
-pub detached_whose : (k : DetachKind) (n : ℕ) (r : Context) → whose (detach.detached k n r) ≡ whose r
+pub detached_whose : (k : DetachKind) (n : ℕ) (r : Context) → whose (detach.detached k n r).0 ≡ whose r
 detached_whose k n r = grind (arith, nat_tests)
 
 -- nothing is owed once it is settled

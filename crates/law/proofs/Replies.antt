@@ -1,9 +1,8 @@
 -- What is owed to the mobiles after any calls, and how long it can still take.
-use Rattle.std.proofs.Common.{◌≡◌, ℕ, ◌+◌, ◌≤◌, ◌⊎◌, inl, inr, Bool, true, false, cond, ◌&&◌, List, [], ◌∷◌, is_some, Some, None, Ok, Err, Option, Result, refl, sym, ap, ◌∙◌, subst, arith}
+use Rattle.std.proofs.Common.{◌≡◌, ℕ, ◌+◌, ◌≤◌, Bool, true, false, cond, not, ◌&&◌, List, [], ◌∷◌, is_some, Some, None, Ok, Err, Option, Result, refl, sym, ap, ◌∙◌, subst, arith}
 use Rattle.std.specs.List.{count_by}
 use Rattle.std.proofs.lemmas.Bool.{true≢false, and_right, not-true, cond-true, cond-false}
 use Rattle.std.proofs.lemmas.Bool.Decides.{nat_tests}
-use Rattle.std.proofs.lemmas.Option.{none-some}
 use Rattle.imsi.specs.declared.Imsi.{Imsi}
 use Rattle.elements.specs.declared.fault.Fault.{Fault}
 use Rattle.elements.specs.declared.node.NodeNumber.{NodeNumber}
@@ -18,8 +17,8 @@ use Rattle.directory.proofs.Lookups.{at-whose}
 use Rattle.station.specs.declared.denial.Denial.{Denial}
 use Rattle.station.specs.declared.receiving.Delivery.{Delivery}
 use Rattle.station.specs.declared.receiving.Refusal.{Refusal}
-use Rattle.station.specs.declared.sending.Outgoing.{Outgoing}
-use Rattle.station.specs.Calls.{unless, Decided, Called}
+use Rattle.station.specs.Calls.{Plan, plan}
+use Rattle.station.proofs.Questions.{unworn}
 use Rattle.station.specs.Receiving as receive
 use Rattle.station.specs.Sends.{is_worn}
 use Rattle.context.specs.declared.class.ServiceClass.{ServiceClass}
@@ -29,10 +28,7 @@ use Rattle.context.specs.declared.errand.Errand.TheVariants as errand
 use Rattle.context.specs.declared.errand.Open.{Open}
 use Rattle.context.specs.declared.errand.Verdict.{Verdict}
 use Rattle.context.specs.declared.kind.Request.{Request}
-use Rattle.context.specs.declared.kind.RequestKind.{RequestKind}
-use Rattle.context.specs.declared.kind.DetachKind.{DetachKind}
 use Rattle.context.specs.Answering.{answered}
-use Rattle.context.specs.Codes.{class_in, request_kind_in, detach_kind_in}
 use Rattle.context.specs.Contexts.{whose, doubtful, doubtful_at, new_context, attached_now}
 use Rattle.context.specs.Detaching as detach
 use Rattle.context.specs.Errands.{is_open, owes}
@@ -41,13 +37,13 @@ use Rattle.context.specs.Requesting as request
 use Rattle.sgsn.specs.declared.peer.Peer.{Peer}
 use Rattle.sgsn.specs.Delivering as deliver
 use Rattle.sgsn.specs.Detaching as detaching
-use Rattle.sgsn.specs.Enrolling as enrolling
 use Rattle.sgsn.specs.Peers.{peer_from}
 use Rattle.sgsn.specs.Recovering as recovering
 use Rattle.sgsn.specs.Requesting as requesting
 use Rattle.sgsn.specs.Settling as settling
 use Rattle.sgsn.specs.Settling.{settled_errand}
 use Rattle.sgsn.specs.State as sgsn
+use Rattle.sgsn.proofs.Granted.{enrol_granted, attach_granted, request_granted, detach_granted}
 use Rattle.vlr.specs.State as vlr
 use Rattle.law.specs.declared.call.Call.{Call}
 use Rattle.law.specs.declared.call.Call.TheVariants as call
@@ -56,7 +52,7 @@ use Rattle.law.specs.Counts.{accepted, accepted_calls, asks, settles, is_of, tic
 use Rattle.law.specs.Laws.{Balanced, Owed, Timely, owing}
 use Rattle.law.specs.Steps.Came.{new, next}
 use Rattle.law.specs.Answers.{called, settled}
-use Rattle.law.specs.Steps.{Events, Step, Came, SgsnDecides, SgsnCalls, AtVlr, AtNode, is_vlr, is_sgsn}
+use Rattle.law.specs.Steps.{Events, Step, Came, SgsnDecides, SgsnDoes, AtVlr, AtNode, is_vlr, is_sgsn}
 use Rattle.law.specs.Tables.{View, errand_in, errand_of}
 use Rattle.law.proofs.Owing.{InTime, Stays, stays_same, one, errand_after, owing_after, Kept, kept_same, kept_map, kept_stored, answered_stays, answered_whose, paged_errand, paged_whose, doubtful_errand, doubtful_whose, requested_owes, requested_left, requested_whose, detached_owes, detached_left, detached_whose, settled_owes, settled_whose, ticked_owed, ticked_time}
 
@@ -170,71 +166,45 @@ ticked_one n a es s own made R = record {
       subst (λ k. InTime k o) (sym since) ((ticked_time s m (ticks_since s.own m es)).1 (R.left m) o q);
 }
 
--- How a call that can be denied ends.
-outcome : (d : Option Denial) (s after t : sgsn.State) (r : Result Unit Denial) (a : Answer) → a ≡ called r → Decided d tt s after r t → ((accepted a ≡ false) × (t ≡ s)) ⊎ ((d ≡ None) × (accepted a ≡ true) × (t ≡ after))
-outcome (Some d) s after t r a q m = inl (ap accepted (q ∙ ap called m.0), m.1)
-outcome None s after t r a q m = inr (refl, ap accepted (q ∙ ap called m.0), m.1)
-
--- denied or made, where what it makes is known
-by_outcome : (c : Call) (a : Answer) (es : Events) (d : Option Denial) (s after t : sgsn.State) → ((accepted a ≡ false) × (t ≡ s)) ⊎ ((d ≡ None) × (accepted a ≡ true) × (t ≡ after)) → (d ≡ None → accepted a ≡ true → Replies ((c, a) ∷ es) after) → Replies es s → Replies ((c, a) ∷ es) t
-by_outcome c a es d s after t (inl x) made R = denied c a es s t x.0 x.1 R
-by_outcome c a es d s after t (inr x) made R = subst (λ u. Replies ((c, a) ∷ es) u) (sym x.2) (made x.0 x.1)
-
-unless_none : (g : Bool) (d : Denial) (o : Option Denial) → unless g d o ≡ None → (g ≡ true) × (o ≡ None)
-unless_none true d o e = (refl, e)
-unless_none false d o e = absurd (none-some d (sym e))
-
 -- What each call of the SGSN makes.
-is_new : (s : sgsn.State) (i : Imsi) (code : ℕ) → enrolling.enrol_denial s i code ≡ None → is_some (sgsn.record_at s i) ≡ false
-is_new s i code d = grind (arith, nat_tests)
+enrolled_kept : (s : sgsn.State) (i : Imsi) (c : ServiceClass) (x : Option Context) → at whose s.records i ≡ x → not (is_some x) ≡ true → Kept s (sgsn.with_context s (new_context i c))
+enrolled_kept s i c None e f = kept_stored s _ i (new_context i c) refl (stays_same (errand_of s i) errand.Idle (sym (ap errand_in e))) refl refl
+enrolled_kept s i c (Some r) e f = absurd (true≢false (sym f))
 
-enrolled_kept : (s : sgsn.State) (i : Imsi) (o : Option ServiceClass) (x : Option Context) → at whose s.records i ≡ x → is_some x ≡ false → Kept s (enrolling.enrolled_as s i o)
-enrolled_kept s i None x e f = kept_same s s refl refl
-enrolled_kept s i (Some c) None e f = kept_stored s _ i (new_context i c) refl (stays_same (errand_of s i) errand.Idle (sym (ap errand_in e))) refl refl
-enrolled_kept s i (Some c) (Some r) e f = absurd (true≢false f)
-
-attached_kept : (s : sgsn.State) (i : Imsi) (x : Option Context) → at whose s.records i ≡ x → Kept s (enrolling.attached_as s x)
-attached_kept s i None e = kept_same s s refl refl
-attached_kept s i (Some r) e = kept_stored s _ i (attached_now r) (at-whose whose s.records i r e) (stays_same (errand_of s i) r.errand (sym (ap errand_in e))) refl refl
+attached_kept : (s : sgsn.State) (i : Imsi) (r : Context) → at whose s.records i ≡ Some r → Kept s (sgsn.with_context s (attached_now r))
+attached_kept s i r e = kept_stored s _ i (attached_now r) (at-whose whose s.records i r e) (stays_same (errand_of s i) r.errand (sym (ap errand_in e))) refl refl
 
 lost_kept : (s : sgsn.State) → Kept s (recovering.lost s)
 lost_kept s = kept_map s (recovering.lost s) doubtful (λ r. refl) (λ r. refl) refl refl
 
 module _ (s : sgsn.State) (i : Imsi) (a : Answer) (es : Events) (made : accepted a ≡ true) (R : Replies es s) where
-  requested_as : (q : Request) (k : RequestKind) (x : Option Context) → at whose s.records i ≡ x → requesting.record_denial s q k x ≡ None → Replies ((call.Request i q, a) ∷ es) (requesting.requested_as s q (Some k) x)
-  requested_as q k None e d = absurd (none-some _ (sym d))
-  requested_as q k (Some r) e d =
-      let voice = unless_none _ _ _ d in
-      let its = unless_none _ _ _ voice.1 in
-      let free = unless_none _ _ _ its.1 in
-      asked (call.Request i q) a es s _ i (request.requested k q (s.last + 1) r) refl refl (λ n. refl) (λ m. refl) made (requested_whose k q (s.last + 1) r ∙ at-whose whose s.records i r e)
-      (ap (λ x. owes (errand_in x)) e ∙ not-true _ free.0) (requested_owes k q (s.last + 1) r) (requested_left k q (s.last + 1) r) refl refl R
+  requested_replies : (q : Request) (p : Plan Unit sgsn.State) → requesting.requested s i q ≡ Ok p → Replies ((call.Request i q, a) ∷ es) p.after
+  requested_replies q p e =
+      let G = request_granted s i q p e in
+      let n = s.last + 1 in
+      subst (λ u. Replies ((call.Request i q, a) ∷ es) u.after) G.plan
+      (asked (call.Request i q) a es s _ i (request.requested G.kind G.class q n G.context).0 refl refl (λ n. refl) (λ m. refl) made (requested_whose G.kind G.class q n G.context ∙ at-whose whose s.records i G.context G.stands)
+      (ap (λ x. owes (errand_in x)) G.stands ∙ not-true _ G.free) (requested_owes G.kind G.class q n G.context) (requested_left G.kind G.class q n G.context) refl refl R)
 
-  requested_by : (q : Request) (o : Option RequestKind) → requesting.kind_denial s i q o ≡ None → Replies ((call.Request i q, a) ∷ es) (requesting.requested_as s q o (sgsn.record_at s i))
-  requested_by q None d = absurd (none-some _ (sym d))
-  requested_by q (Some k) d = requested_as q k (sgsn.record_at s i) refl (unless_none _ _ _ d).1
-
-  detached_as : (code : ℕ) (k : DetachKind) (x : Option Context) → at whose s.records i ≡ x → detaching.record_denial k x ≡ None → Replies ((call.Detach i code, a) ∷ es) (detaching.detached_as s (Some k) x)
-  detached_as code k None e d = absurd (none-some _ (sym d))
-  detached_as code k (Some r) e d =
-      asked (call.Detach i code) a es s _ i (detach.detached k (s.last + 1) r) refl refl (λ n. refl) (λ m. refl) made (detached_whose k (s.last + 1) r ∙ at-whose whose s.records i r e)
-      (ap (λ x. owes (errand_in x)) e ∙ not-true _ (unless_none _ _ _ d).0) (detached_owes k (s.last + 1) r) (detached_left k (s.last + 1) r) refl refl R
-
-  detached_by : (code : ℕ) (o : Option DetachKind) → detaching.kind_denial s i o ≡ None → Replies ((call.Detach i code, a) ∷ es) (detaching.detached_as s o (sgsn.record_at s i))
-  detached_by code None d = absurd (none-some _ (sym d))
-  detached_by code (Some k) d = detached_as code k (sgsn.record_at s i) refl (unless_none _ _ _ d).1
+  detached_replies : (code : ℕ) (p : Plan Unit sgsn.State) → detaching.detached s i code ≡ Ok p → Replies ((call.Detach i code, a) ∷ es) p.after
+  detached_replies code p e =
+      let G = detach_granted s i code p e in
+      let n = s.last + 1 in
+      subst (λ u. Replies ((call.Detach i code, a) ∷ es) u.after) G.plan
+      (asked (call.Detach i code) a es s _ i (detach.detached G.kind n G.context).0 refl refl (λ n. refl) (λ m. refl) made (detached_whose G.kind n G.context ∙ at-whose whose s.records i G.context G.stands)
+      (ap (λ x. owes (errand_in x)) G.stands ∙ not-true _ G.free) (detached_owes G.kind n G.context) (detached_left G.kind n G.context) refl refl R)
 
 -- what a frame makes
-paged_kept : (s : sgsn.State) (f : Frame) (p : Peer) (i : Imsi) (x : Option Context) → at whose s.records i ≡ x → Kept s (deliver.paged_by s f p x)
+paged_kept : (s : sgsn.State) (f : Frame) (p : Peer) (i : Imsi) (x : Option Context) → at whose s.records i ≡ x → Kept s (deliver.paged_by s f p x).after
 paged_kept s f p i None e = kept_same s s refl refl
-paged_kept s f p i (Some r) e = kept_stored s _ i (page.paged p.vlr r) (paged_whose p.vlr r ∙ at-whose whose s.records i r e) (stays_same (errand_of s i) _ (paged_errand p.vlr r ∙ sym (ap errand_in e))) refl refl
+paged_kept s f p i (Some r) e = kept_stored s _ i (page.paged p.vlr f.stamp r).0 (paged_whose p.vlr f.stamp r ∙ at-whose whose s.records i r e) (stays_same (errand_of s i) _ (paged_errand p.vlr f.stamp r ∙ sym (ap errand_in e))) refl refl
 
 answered_kept : (s : sgsn.State) (f : Frame) (p : Peer) (i : Imsi) (x : Option Context) → at whose s.records i ≡ x → Kept s (deliver.answered_by s f p x)
 answered_kept s f p i None e = kept_same s s refl refl
 answered_kept s f p i (Some r) e = kept_stored s _ i (answered p.vlr f.answers p.row.reset f.message r) (answered_whose p.vlr f.answers p.row.reset f.message r ∙ at-whose whose s.records i r e)
     (subst (λ x. Stays x (answered p.vlr f.answers p.row.reset f.message r).errand) (sym (ap errand_in e)) (answered_stays p.vlr f.answers p.row.reset f.message r)) refl refl
 
-taken_kept : (s : sgsn.State) (f : Frame) (p : Peer) (k : Message) → Kept s (deliver.taken_by s f p k)
+taken_kept : (s : sgsn.State) (f : Frame) (p : Peer) (k : Message) → Kept s (deliver.taken_by s f p k).after
 taken_kept s f p (Reset e) = kept_map s _ (doubtful_at p.vlr) (doubtful_whose p.vlr) (doubtful_errand p.vlr) refl refl
 taken_kept s f p (ResetAcknowledge e) = kept_same s _ refl refl
 taken_kept s f p (Paging i t c) = paged_kept s f p i _ refl
@@ -248,7 +218,7 @@ taken_kept s f p (GprsDetachAcknowledge i t) = answered_kept s f p i _ refl
 taken_kept s f p (ImsiDetachIndication i t) = answered_kept s f p i _ refl
 taken_kept s f p (ImsiDetachAcknowledge i t) = answered_kept s f p i _ refl
 
-moved_kept : (s : sgsn.State) (f : Frame) (p : Option Peer) → Kept s (deliver.taken s f p)
+moved_kept : (s : sgsn.State) (f : Frame) (p : Option Peer) → Kept s (deliver.taken s f p).after
 moved_kept s f None = kept_same s s refl refl
 moved_kept s f (Some p) = taken_kept s f p f.message
 
@@ -277,16 +247,13 @@ settled_by i a es s t (Ok v) q is after R =
 settled_by i a es s t (Err d) q is after R = denied (call.Settle i) a es s t (ap accepted is) after R
 
 module _ {C : Type 0} (takes : C → NodeNumber → Option (List ℕ) → C → Type 0) (puts : C → List ℕ → C → Type 0) where
-  decided : (d : Option Denial) (s after t : sgsn.State) (os : List Outgoing) (r : Result Unit Denial) (c e : C) → Called sgsn.own_of sgsn.last_of puts d tt s after os r c t e → Decided d tt s after r t
-  decided (Some d) s after t os r c e m = (m.0, m.1)
-  decided None s after t os r c e m = (m.0, m.1)
+  decides : (c : Call) (a : Answer) (es : Events) (plan : Result (Plan Unit sgsn.State) Denial) (x y : View C) → SgsnDecides takes puts plan a x y → ((p : Plan Unit sgsn.State) → plan ≡ Ok p → accepted a ≡ true → Replies ((c, a) ∷ es) p.after) → Replies es x.sgsn → Replies ((c, a) ∷ es) y.sgsn
+  decides c a es (Err d) x y D made R = denied c a es x.sgsn y.sgsn (ap accepted (D.answered ∙ ap called D.decided.0)) D.decided.1 R
+  decides c a es (Ok p) x y D made R = subst (λ u. Replies ((c, a) ∷ es) u) (sym D.decided.1) (made p refl (ap accepted (D.answered ∙ ap called D.decided.0)))
 
-  decides : (c : Call) (a : Answer) (es : Events) (d : Option Denial) (after : sgsn.State) (x y : View C) → SgsnDecides takes puts d after a x y → (d ≡ None → accepted a ≡ true → Replies ((c, a) ∷ es) after) → Replies es x.sgsn → Replies ((c, a) ∷ es) y.sgsn
-  decides c a es d after x y D made R = by_outcome c a es d x.sgsn after y.sgsn (outcome d x.sgsn after y.sgsn D.result a D.answered D.decided) made R
-
-  calls : (c : Call) (a : Answer) (es : Events) (d : Option Denial) (after : sgsn.State) (os : List Outgoing) (x y : View C) → SgsnCalls takes puts d after os a x y → (d ≡ None → accepted a ≡ true → Replies ((c, a) ∷ es) after) → Replies es x.sgsn → Replies ((c, a) ∷ es) y.sgsn
-  calls c a es d after os x y D made R =
-      by_outcome c a es d x.sgsn after y.sgsn (outcome d x.sgsn after y.sgsn D.result a D.answered (decided d x.sgsn after y.sgsn os D.result x.carrier y.carrier D.made)) made R
+  does : (c : Call) (a : Answer) (es : Events) (plan : Result (Plan Unit sgsn.State) Denial) (x y : View C) → SgsnDoes takes puts plan a x y → ((p : Plan Unit sgsn.State) → plan ≡ Ok p → accepted a ≡ true → Replies ((c, a) ∷ es) p.after) → Replies es x.sgsn → Replies ((c, a) ∷ es) y.sgsn
+  does c a es (Err d) x y D made R = denied c a es x.sgsn y.sgsn (ap accepted (D.answered ∙ ap called D.made.0)) D.made.1 R
+  does c a es (Ok p) x y D made R = subst (λ u. Replies ((c, a) ∷ es) u) (sym D.made.1) (made p refl (ap accepted (D.answered ∙ ap called D.made.0)))
 
   delivered_kept : (b : Bool) (r : Result Delivery Refusal) (s : sgsn.State) (c : C) (t : sgsn.State) (d : C) → receive.Asked sgsn.own_of sgsn.last_of deliver.moved_by_frame deliver.sends_by_frame deliver.answer_by_frame takes puts b r s c t d → Kept s t
   delivered_kept true r s c t d m = kept_still s t m.1
@@ -302,21 +269,25 @@ module _ {C : Type 0} (takes : C → NodeNumber → Option (List ℕ) → C → 
   at_node P false Sgsn n Makes a x y m here there = there refl (at_vlr n Makes (is_vlr n x.vlrs) a x y m)
 
   pub replies_step : (c : Call) (a : Answer) (es : Events) (x y : View C) → Step takes puts c a x y → Replies es x.sgsn → Replies ((c, a) ∷ es) y.sgsn
-  replies_step (call.Enrol i code) a es x y S R = decides (call.Enrol i code) a es _ _ x y S (λ d made. quiet (call.Enrol i code) a es x.sgsn _ refl refl refl (enrolled_kept x.sgsn i (class_in code) (sgsn.record_at x.sgsn i) refl (is_new x.sgsn i code d)) R) R
-  replies_step (call.Attach i) a es x y S R = decides (call.Attach i) a es _ _ x y S (λ d made. quiet (call.Attach i) a es x.sgsn _ refl refl refl (attached_kept x.sgsn i (sgsn.record_at x.sgsn i) refl) R) R
-  replies_step (call.Request i q) a es x y S R = calls (call.Request i q) a es _ _ _ x y S (λ d made. requested_by x.sgsn i a es made R q (request_kind_in q.kind) (unless_none _ _ _ d).1) R
-  replies_step (call.Detach i code) a es x y S R = calls (call.Detach i code) a es _ _ _ x y S (λ d made. detached_by x.sgsn i a es made R code (detach_kind_in code) (unless_none _ _ _ d).1) R
+  replies_step (call.Enrol i code) a es x y S R = decides (call.Enrol i code) a es _ x y S (λ p e made.
+      let G = enrol_granted x.sgsn i code p e in
+      quiet (call.Enrol i code) a es x.sgsn _ refl refl refl (subst (λ u. Kept x.sgsn u.after) G.plan (enrolled_kept x.sgsn i G.class (sgsn.record_at x.sgsn i) refl G.unknown)) R) R
+  replies_step (call.Attach i) a es x y S R = decides (call.Attach i) a es _ x y S (λ p e made.
+      let G = attach_granted x.sgsn i p e in
+      quiet (call.Attach i) a es x.sgsn _ refl refl refl (subst (λ u. Kept x.sgsn u.after) G.plan (attached_kept x.sgsn i G.context G.stands)) R) R
+  replies_step (call.Request i q) a es x y S R = does (call.Request i q) a es _ x y S (λ p e made. requested_replies x.sgsn i a es made R q p e) R
+  replies_step (call.Detach i code) a es x y S R = does (call.Detach i code) a es _ x y S (λ p e made. detached_replies x.sgsn i a es made R code p e) R
   replies_step (call.Settle i) a es x y S R = settled_by i a es x.sgsn y.sgsn (settling.settling x.sgsn i) refl S.answered S.after R
   replies_step (call.EnrolAtVlr n i cause) a es x y S R = quiet (call.EnrolAtVlr n i cause) a es x.sgsn y.sgsn refl refl refl (kept_still x.sgsn y.sgsn (at_vlr n.node _ (is_vlr n.node x.vlrs) a x y S)) R
   replies_step (call.Page n i t ch) a es x y S R = quiet (call.Page n i t ch) a es x.sgsn y.sgsn refl refl refl (kept_still x.sgsn y.sgsn (at_vlr n.node _ (is_vlr n.node x.vlrs) a x y S)) R
   replies_step (call.Lose n) a es x y S R = at_node (Replies ((call.Lose n, a) ∷ es) y.sgsn) (is_sgsn takes puts n x) _ n _ a x y S
-      (λ here m. calls (call.Lose n) a es _ _ _ x y m (λ d made. quiet (call.Lose n) a es x.sgsn _ refl refl refl (lost_kept x.sgsn) R) R)
+      (λ here m. does (call.Lose n) a es (recovering.losing x.sgsn) x y m (λ p e made. quiet (call.Lose n) a es x.sgsn _ refl refl refl (subst (λ u. Kept x.sgsn u.after) (unworn x.sgsn.last (plan (recovering.lost x.sgsn) (recovering.resets x.sgsn)) p e) (lost_kept x.sgsn)) R) R)
       (λ here still. quiet (call.Lose n) a es x.sgsn y.sgsn refl refl refl (kept_still x.sgsn y.sgsn still) R)
   replies_step (call.Deliver n) a es x y S R = at_node (Replies ((call.Deliver n, a) ∷ es) y.sgsn) (is_sgsn takes puts n x) _ n _ a x y S
       (λ here m. quiet (call.Deliver n) a es x.sgsn y.sgsn refl refl refl (delivered_kept (is_worn x.sgsn.last) m.result x.sgsn x.carrier y.sgsn y.carrier m.made) R)
       (λ here still. quiet (call.Deliver n) a es x.sgsn y.sgsn refl refl refl (kept_still x.sgsn y.sgsn still) R)
   replies_step (call.Tick n) a es x y S R = at_node (Replies ((call.Tick n, a) ∷ es) y.sgsn) (is_sgsn takes puts n x) _ n _ a x y S
-      (λ here m. calls (call.Tick n) a es _ _ _ x y m (λ d made. ticked_one n a es x.sgsn here made R) R)
+      (λ here m. does (call.Tick n) a es (recovering.ticking x.sgsn) x y m (λ p e made. subst (λ u. Replies ((call.Tick n, a) ∷ es) u.after) (unworn x.sgsn.last (plan (recovering.ticked x.sgsn) (recovering.tick_sends x.sgsn)) p e) (ticked_one n a es x.sgsn here made R)) R)
       (λ here still. quiet (call.Tick n) a es x.sgsn y.sgsn refl refl (ap (λ b. b && accepted a) here) (kept_still x.sgsn y.sgsn still) R)
 
   pub replies : (waiting : C → List (List ℕ)) (latest : C → Stamps) (es : Events) (x : View C) → Came waiting latest takes puts es x → Replies es x.sgsn

@@ -1,19 +1,18 @@
 -- Each move of an SGSN shows what it must.
-use Rattle.std.proofs.Common.{◌≡◌, ℕ, ◌≤◌, ◌⊎◌, true, false, List, map, inl, Some, None, Ok, Err, Option, Result, refl, sym, ap, ◌∙◌, ⊎_elim, arith}
+use Rattle.std.proofs.Common.{◌≡◌, ℕ, ◌≤◌, ◌⊎◌, true, false, List, map, inl, Some, None, Ok, Err, Option, Result, refl, sym, ap, ◌∙◌, subst, ⊎_elim, arith}
 use Rattle.std.proofs.lemmas.Bool.{true≢false, cases_Bool}
 use Rattle.std.proofs.lemmas.List.{length-map, length-append}
 use Rattle.std.proofs.lemmas.Option.{none-some}
 use Rattle.imsi.specs.declared.Imsi.{Imsi}
 use Rattle.station.specs.declared.denial.Denial.{Denial}
-use Rattle.context.specs.declared.class.ServiceClass.{ServiceClass}
 use Rattle.context.specs.declared.context.Context.{Context}
 use Rattle.context.specs.declared.errand.Errand.{Errand}
 use Rattle.context.specs.declared.errand.Errand.TheVariants as errand
 use Rattle.context.specs.declared.errand.Verdict.{Verdict}
+use Rattle.station.specs.Calls.{Plan}
 use Rattle.station.specs.Sends.{frames_of}
 use Rattle.station.specs.Ticks.{reset_to}
 use Rattle.context.specs.Answering.{is_above}
-use Rattle.context.specs.Codes.{class_in, request_kind_in, detach_kind_in}
 use Rattle.context.specs.Contexts.{new_context, attached_now, idle, doubtful}
 use Rattle.context.specs.Ticking.{expired}
 use Rattle.frames.specs.declared.frame.Frame.{Frame}
@@ -24,15 +23,15 @@ use Rattle.sgsn.specs.Enrolling as enrol
 use Rattle.sgsn.specs.declared.peer.Peer.{Peer}
 use Rattle.sgsn.specs.Making.{all_different}
 use Rattle.sgsn.specs.Peers.{peer_from, peers_sends}
-use Rattle.sgsn.specs.Requesting.{request_denial, requested, request_sends}
-use Rattle.sgsn.specs.Detaching.{detached, detach_sends}
+use Rattle.sgsn.specs.Requesting.{requested}
+use Rattle.sgsn.specs.Detaching.{detached}
 use Rattle.sgsn.specs.Settling.{settling, after_settling, settled_as, settled_errand}
 use Rattle.sgsn.specs.Delivering.{moved_by_frame, sends_by_frame}
 use Rattle.sgsn.specs.Recovering.{lost, resets, records_ticked, records_sends, last_between, ticked, tick_sends}
 use Rattle.vlr.specs.State as vlr
 use Rattle.law.specs.Sound.{Pair, Sure, harms, is_acknowledgement, asked, peer_of, reset_in, due_in}
 use Rattle.law.proofs.Premises.{Among, Fit, Given, Sends, SgsnMove}
-use Rattle.law.proofs.Keeping.{granted}
+use Rattle.sgsn.proofs.Granted.{enrol_granted, attach_granted}
 use Rattle.law.proofs.Losses.{lost_above, lost_before, lost_due, lost_none, lost_other}
 use Rattle.law.proofs.Quieter.{none_unsure, same_record, quieter_doubtful, quieter_map, FoundQuieter, found_quieter, unsure_map, found_unsure, doubtful_nowhere}
 use Rattle.law.proofs.Sendings.{among_stamps, among_either}
@@ -43,28 +42,25 @@ use Rattle.law.proofs.Taken.{taken_by_frame}
 use Rattle.law.proofs.Ticks.{ticked_above, ticked_repeat, ticked_before, ticked_due, doubted_there, Says, rows_say}
 
 module _ (s : sgsn.State) (v : vlr.State) (ws : List (List ℕ)) (ls : Stamps) (F : Fit s) (P : Pair s v ws ls) where
-  pub enrolled_moves : (i : Imsi) (code : ℕ) → SgsnMove s (enrol.enrolled s i code) v ws ls (λ g. ⊥)
-  enrolled_moves i code = enrolled_so (class_in code)
-    where
-      enrolled_so : (o : Option ServiceClass) → SgsnMove s (enrol.enrolled_as s i o) v ws ls (λ g. ⊥)
-      enrolled_so None = still s v ws ls P.reset_before (λ g. ⊥) (λ g n. n)
-      enrolled_so (Some c) =
-          silent s v ws ls P.reset_before (λ g. ⊥) (λ g n. n) (sgsn.with_context s (new_context i c)) refl refl (omega arith) (new_context i c) refl
-          (λ h. absurd (none_unsure _ h)) (λ n a. absurd (none-some n a))
+  pub enrolled_moves : (i : Imsi) (code : ℕ) (p : Plan Unit sgsn.State) → enrol.enrolled s i code ≡ Ok p → SgsnMove s p.after v ws ls (λ g. ⊥)
+  enrolled_moves i code p e =
+      let G = enrol_granted s i code p e in
+      subst (λ u. SgsnMove s u.after v ws ls (λ g. ⊥)) G.plan
+      (silent s v ws ls P.reset_before (λ g. ⊥) (λ g n. n) (sgsn.with_context s (new_context i G.class)) refl refl (omega arith) (new_context i G.class) refl
+      (λ h. absurd (none_unsure _ h)) (λ n a. absurd (none-some n a)))
 
-  pub attached_moves : (i : Imsi) → SgsnMove s (enrol.attached s i) v ws ls (λ g. ⊥)
-  attached_moves i = attached_so (sgsn.record_at s i) refl
-    where
-      attached_so : (o : Option Context) → sgsn.record_at s i ≡ o → SgsnMove s (enrol.attached_as s o) v ws ls (λ g. ⊥)
-      attached_so None e = still s v ws ls P.reset_before (λ g. ⊥) (λ g n. n)
-      attached_so (Some r) e =
-          quiet s v ws ls P.reset_before (λ g. ⊥) (λ g n. n) (sgsn.with_context s (attached_now r)) refl refl (omega arith) i r (attached_now r) e refl (record { mobile = refl; sure = λ n h. h; asking = λ a n h. h })
+  pub attached_moves : (i : Imsi) (p : Plan Unit sgsn.State) → enrol.attached s i ≡ Ok p → SgsnMove s p.after v ws ls (λ g. ⊥)
+  attached_moves i p e =
+      let G = attach_granted s i p e in
+      let r = G.context in
+      subst (λ u. SgsnMove s u.after v ws ls (λ g. ⊥)) G.plan
+      (quiet s v ws ls P.reset_before (λ g. ⊥) (λ g n. n) (sgsn.with_context s (attached_now r)) refl refl (omega arith) i r (attached_now r) G.stands refl (record { mobile = refl; sure = λ n h. h; asking = λ a n h. h }))
 
-  pub requested_moves : (i : Imsi) (q : Request) → request_denial s i q ≡ None → SgsnMove s (requested s i q) v ws ls (Sends s.own s.last (request_sends s i q) v.own)
-  requested_moves i q d = requested_so s v ws ls P.reset_before i q (request_kind_in q.kind) (sgsn.record_at s i) refl (granted _ _ _ d).1
+  pub requested_moves : (i : Imsi) (q : Request) (p : Plan Unit sgsn.State) → requested s i q ≡ Ok p → SgsnMove s p.after v ws ls (Sends s.own s.last p.sends v.own)
+  requested_moves i q p e = requested_so s v ws ls P.reset_before i q p e
 
-  pub detached_moves : (i : Imsi) (code : ℕ) → SgsnMove s (detached s i code) v ws ls (Sends s.own s.last (detach_sends s i code) v.own)
-  detached_moves i code = detached_so s v ws ls P.reset_before (detach_kind_in code) (sgsn.record_at s i)
+  pub detached_moves : (i : Imsi) (code : ℕ) (p : Plan Unit sgsn.State) → detached s i code ≡ Ok p → SgsnMove s p.after v ws ls (Sends s.own s.last p.sends v.own)
+  detached_moves i code p e = detached_so s v ws ls P.reset_before i code p e
 
   pub settled_moves : (i : Imsi) → SgsnMove s (after_settling s i (settling s i)) v ws ls (λ g. ⊥)
   settled_moves i = settled_so (settling s i)

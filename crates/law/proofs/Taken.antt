@@ -16,6 +16,7 @@ use Rattle.carrier.specs.Nodes.{same_node_lem, own_node}
 use Rattle.carrier.specs.Order.{Stamps}
 use Rattle.directory.proofs.Lookups.{at-whose, same_eq}
 use Rattle.station.specs.declared.mark.Mark.TheVariants as mark
+use Rattle.station.specs.declared.sending.Outgoing.{Outgoing}
 use Rattle.station.specs.Marks.{node_in}
 use Rattle.station.specs.declared.row.Row.{Row}
 use Rattle.station.specs.Rows.{reset_taken, acknowledged, is_last}
@@ -34,7 +35,7 @@ use Rattle.sgsn.specs.Fitting.{fits_in}
 use Rattle.sgsn.proofs.Fits.{fits_at}
 use Rattle.sgsn.specs.Peers.{peer_from}
 use Rattle.sgsn.specs.State as sgsn
-use Rattle.sgsn.specs.Delivering.{acknowledged_by, answered_by, reset_by, paged_by, sends_for_page, taken, taken_by, sends, sends_by}
+use Rattle.sgsn.specs.Delivering.{acknowledged_by, answered_by, reset_by, paged_by, taken, taken_by}
 use Rattle.vlr.specs.State as vlr
 use Rattle.law.specs.Tables.{errand_in}
 use Rattle.law.specs.Sound.{Live, Pair, SureBy, accepts, asked, asked_in, update_stamp, answered_by as due_answers, peer_of, reset_in, reset_to, due_in}
@@ -199,7 +200,7 @@ module _ (s : sgsn.State) (v : vlr.State) (ws : List (List ℕ)) (ls : Stamps) (
         kept : {X : Type 0} (r : Row) (h : Row → X) → h (record { recovery = None; reset = r.reset; due = r.due }) ≡ h r → h (acknowledged r f.answers) ≡ h r
         kept r h e = cond_both (is_some r.recovery && is_last r.reset f.answers) (record { recovery = None; reset = r.reset; due = r.due }) r (λ x. h x ≡ h r) (λ t. e) (λ t. refl)
 
-    page_moves : (i : Imsi) (o : Option Context) → sgsn.record_at s i ≡ o → SgsnMove s (paged_by s f p o) v ws1 ls1 (Sends s.own s.last (sends_for_page f p o) v.own)
+    page_moves : (i : Imsi) (o : Option Context) → sgsn.record_at s i ≡ o → SgsnMove s (paged_by s f p o).after v ws1 ls1 (Sends s.own s.last (paged_by s f p o).sends v.own)
     page_moves i None e = still s v ws1 ls1 P.reset_before Quiet (λ g n. n.0)
     page_moves i (Some r) e = pages r.attached (moves_to p.vlr r) (node_in r.mark) refl refl
       where
@@ -207,7 +208,8 @@ module _ (s : sgsn.State) (v : vlr.State) (ws : List (List ℕ)) (ls : Stamps) (
         fit = fits_at (sgsn.vlrs_of s) s.records i r F.fits e
 
         pages : (a b : Bool) (o : Option VlrNumber) → r.attached ≡ a → moves_to p.vlr r ≡ b
-            → SgsnMove s (sgsn.with_sent s (cond b (now_at p.vlr r) r) (cond a (cond b (status_to o r) []) (failure_to p.vlr f.stamp r))) v ws1 ls1 (Sends s.own s.last (cond a (cond b (status_to o r) []) (failure_to p.vlr f.stamp r)) v.own)
+            → let m : Context × Option Outgoing = cond a (cond b (now_at p.vlr r, status_to o r) (r, None)) (r, Some (failure_to p.vlr f.stamp r)) in
+            SgsnMove s (sgsn.moved s m).after v ws1 ls1 (Sends s.own s.last (sgsn.moved s m).sends v.own)
         pages true true None h k =
             quiet s v ws1 ls1 P.reset_before Quiet (λ g n. n.0) (sgsn.with_sent s (now_at p.vlr r) []) refl refl (omega arith) i r (now_at p.vlr r) e refl
             (record { mobile = refl; sure = λ n x. absurd (unsure_unsure p.vlr n x); asking = λ a n x. x })
@@ -215,12 +217,11 @@ module _ (s : sgsn.State) (v : vlr.State) (ws : List (List ℕ)) (ls : Stamps) (
             told s v ws1 ls1 P.reset_before (now_at p.vlr r) (record { to = w.node; answers = 0; message = MobileStatus r.imsi cause.MovedToAnotherVlr }) refl (λ m d. d)
             (λ x. unsure_unsure p.vlr _ x) (λ n x. absurd (true≢false (sym (asks_open v.own r.errand n x) ∙ (moving_served p.vlr r k).1)))
         pages true false o h k = quiet s v ws1 ls1 P.reset_before Quiet (λ g n. n.0) (sgsn.with_sent s r []) refl refl (omega arith) i r r e refl (same_record r)
-        pages false true o h k = absurd (true≢false (sym (moving_served p.vlr r k).0 ∙ h))
-        pages false false o h k =
+        pages false b o h k =
             told s v ws1 ls1 P.reset_before r (record { to = p.vlr.node; answers = f.stamp; message = PagingFailure r.imsi cause.NotAttached }) refl (λ m d. d)
             (λ x. true≢false (sym (sure_served (sgsn.vlrs_of s) r _ fit x).0 ∙ h)) (λ n x. absurd (true≢false (sym (asking_served (sgsn.vlrs_of s) r v.own n fit x) ∙ h)))
 
-    its_moves : (m : Message) → f.message ≡ m → SgsnMove s (taken_by s f p m) v ws1 ls1 (Sends s.own s.last (sends_by s f p m) v.own)
+    its_moves : (m : Message) → f.message ≡ m → SgsnMove s (taken_by s f p m).after v ws1 ls1 (Sends s.own s.last (taken_by s f p m).sends v.own)
     its_moves (Reset e) q = reset_moves
     its_moves (ResetAcknowledge e) q = acknowledged_moves
     its_moves (Paging i t c) q = page_moves i (sgsn.record_at s i) refl
@@ -234,6 +235,6 @@ module _ (s : sgsn.State) (v : vlr.State) (ws : List (List ℕ)) (ls : Stamps) (
     its_moves (GprsDetachIndication i t) q = answer_moves i (sgsn.record_at s i) refl (λ o r. subst (λ m. Quieter r (matched o p.row.reset m r)) (sym q) (same_record r))
     its_moves (ImsiDetachIndication i t) q = answer_moves i (sgsn.record_at s i) refl (λ o r. subst (λ m. Quieter r (matched o p.row.reset m r)) (sym q) (same_record r))
 
-  pub taken_by_frame : (o : Option Peer) → peer_from f s.peers ≡ o → SgsnMove s (taken s f o) v ws1 ls1 (Sends s.own s.last (sends s f o) v.own)
+  pub taken_by_frame : (o : Option Peer) → peer_from f s.peers ≡ o → SgsnMove s (taken s f o).after v ws1 ls1 (Sends s.own s.last (taken s f o).sends v.own)
   taken_by_frame None e = still s v ws1 ls1 P.reset_before Quiet (λ g n. n.0)
   taken_by_frame (Some p) e = its_moves p e f.message refl

@@ -30,7 +30,7 @@ use Rattle.vlr.specs.declared.record.Record.{Record}
 use Rattle.vlr.specs.Moves.{answer_to, cause_for, update_answer, detach_answer}
 use Rattle.vlr.specs.Delivering.{noted, answering, answers_to, row_after, taken, moved_by_frame, sends_by_frame}
 use Rattle.vlr.specs.Enrolling.{enrolled}
-use Rattle.vlr.specs.Paging.{paged, paging}
+use Rattle.vlr.specs.Paging.{paged, pages}
 use Rattle.vlr.specs.Recovering.{lost, resets, ticked, tick_sends}
 use Rattle.vlr.specs.Laws.{record_at, by_message}
 use Rattle.vlr.proofs.ByMobile.{enrolled-at, taken-at}
@@ -116,16 +116,16 @@ module _ (s : sgsn.State) (v : vlr.State) (ws : List (List ℕ)) (ls : Stamps) (
     accepting = λ m g n k. absurd n;
   }
 
-  pub paged_moves : (i : Imsi) (t ch : Option ℕ) → VlrMove s v (paged v) ws ls (Sends v.own v.last (paging v i t ch) s.own)
+  pub paged_moves : (i : Imsi) (t ch : Option ℕ) → VlrMove s v (paged v) ws ls (Sends v.own v.last (pages v i t ch) s.own)
   paged_moves i t ch = record {
     own = refl;
     sgsn = refl;
     last = omega arith;
-    stamps = λ g n. among_stamps v.own v.last (paging v i t ch) g n.0;
+    stamps = λ g n. among_stamps v.own v.last (pages v i t ch) g n.0;
     reset = refl;
     recovery = λ e. inl e;
     sure = λ m h. inl h;
-    accepting = λ m g n k. absurd (true≢false (sym k ∙ not-true _ (among_all (λ x. not (accepts m x)) v.own v.last (paging v i t ch) g refl n.0)));
+    accepting = λ m g n k. absurd (true≢false (sym k ∙ not-true _ (among_all (λ x. not (accepts m x)) v.own v.last (pages v i t ch) g refl n.0)));
   }
 
   pub lost_restarts : VlrRestart s v (lost v) ws ls (Sends v.own v.last (resets v) s.own)

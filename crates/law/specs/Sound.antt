@@ -5,7 +5,7 @@ use Rattle.imsi.specs.declared.Imsi.{Imsi}
 use Rattle.elements.specs.declared.node.NodeNumber.{NodeNumber}
 use Rattle.elements.specs.Nodes.{same_node}
 use Rattle.messages.specs.declared.message.Message.{Message}
-use Rattle.messages.specs.declared.message.Message.TheVariants.{Paging, PagingFailure, MobileStatus, LuRequest, LuAccept, LuReject, Reset, ResetAcknowledge, GprsDetachIndication, GprsDetachAcknowledge, ImsiDetachIndication, ImsiDetachAcknowledge}
+use Rattle.messages.specs.declared.message.Message.TheVariants.{PagingFailure, MobileStatus, LuRequest, LuAccept, Reset, ResetAcknowledge, GprsDetachIndication, ImsiDetachIndication}
 use Rattle.frames.specs.declared.frame.Frame.{Frame}
 use Rattle.frames.specs.Format.{lawful_frame, frame_octets}
 use Rattle.carrier.specs.Order.{Stamps}
@@ -40,41 +40,16 @@ harms m (LuRequest i u o a c) = same m i
 harms m (GprsDetachIndication i t) = same m i
 harms m (ImsiDetachIndication i t) = same m i
 harms m (Reset e) = true
-harms m (Paging i t c) = false
-harms m (LuAccept i a) = false
-harms m (LuReject i c) = false
-harms m (ResetAcknowledge e) = false
-harms m (GprsDetachAcknowledge i t) = false
-harms m (ImsiDetachAcknowledge i t) = false
+harms m k = false
 
 abbrev pub is_acknowledgement : Message → Bool
 is_acknowledgement (ResetAcknowledge e) = true
-is_acknowledgement (Reset e) = false
-is_acknowledgement (PagingFailure i c) = false
-is_acknowledgement (MobileStatus i c) = false
-is_acknowledgement (LuRequest i u o a c) = false
-is_acknowledgement (GprsDetachIndication i t) = false
-is_acknowledgement (ImsiDetachIndication i t) = false
-is_acknowledgement (Paging i t c) = false
-is_acknowledgement (LuAccept i a) = false
-is_acknowledgement (LuReject i c) = false
-is_acknowledgement (GprsDetachAcknowledge i t) = false
-is_acknowledgement (ImsiDetachAcknowledge i t) = false
+is_acknowledgement k = false
 
 -- a message by which a VLR accepts this mobile
 abbrev pub accepts : Imsi → Message → Bool
 accepts m (LuAccept i a) = same m i
-accepts m (ResetAcknowledge e) = false
-accepts m (Reset e) = false
-accepts m (PagingFailure i c) = false
-accepts m (MobileStatus i c) = false
-accepts m (LuRequest i u o a c) = false
-accepts m (GprsDetachIndication i t) = false
-accepts m (ImsiDetachIndication i t) = false
-accepts m (Paging i t c) = false
-accepts m (LuReject i c) = false
-accepts m (GprsDetachAcknowledge i t) = false
-accepts m (ImsiDetachAcknowledge i t) = false
+accepts m k = false
 
 -- the SGSN is sure that this VLR serves the mobile
 abbrev pub Sure : sgsn.State → NodeNumber → Imsi → Type 0

@@ -10,21 +10,19 @@ use Rattle.carrier.specs.Order.{Stamps, Empty}
 use Rattle.station.specs.declared.denial.Denial.{Denial}
 use Rattle.station.specs.declared.receiving.Delivery.{Delivery}
 use Rattle.station.specs.declared.receiving.Refusal.{Refusal}
-use Rattle.station.specs.declared.sending.Outgoing.{Outgoing}
-use Rattle.station.specs.Calls.{Decided, Called}
+use Rattle.station.specs.Calls.{Plan, Decides, Does}
 use Rattle.sgsn.specs.State as sgsn
 use Rattle.sgsn.specs.Making as sgsn_made
 use Rattle.sgsn.specs.Enrolling as sgsn_enrol
-use Rattle.sgsn.specs.Requesting.{request_denial, requested, request_sends}
-use Rattle.sgsn.specs.Detaching.{detach_denial, detached, detach_sends}
+use Rattle.sgsn.specs.Requesting.{requested}
+use Rattle.sgsn.specs.Detaching.{detached}
 use Rattle.sgsn.specs.Settling.{settling, after_settling}
 use Rattle.sgsn.specs.Delivering as sgsn_deliver
 use Rattle.sgsn.specs.Recovering as sgsn_recover
 use Rattle.vlr.specs.State as vlr
 use Rattle.vlr.specs.Making as vlr_made
-use Rattle.vlr.specs.Calls as vlr_call
 use Rattle.vlr.specs.Enrolling as vlr_enrol
-use Rattle.vlr.specs.Paging.{page_denial, paged, paging}
+use Rattle.vlr.specs.Paging.{paging}
 use Rattle.vlr.specs.Recovering as vlr_recover
 use Rattle.vlr.specs.Delivering as vlr_deliver
 use Rattle.law.specs.declared.call.Call.{Call}
@@ -41,18 +39,18 @@ is_vlr n vs = list_any (λ v. same_node v.own n) vs
 -- One call, of the site's SGSN and of one of its VLRs, over a carrier that puts and takes so.
 module _ {C : Type 0} (takes : C → NodeNumber → Option (List ℕ) → C → Type 0) (puts : C → List ℕ → C → Type 0) where
   -- the SGSN decides; nothing is sent
-  pub record SgsnDecides (denial : Option Denial) (after : sgsn.State) (a : Answer) (x y : View C) : Type 0 where
+  pub record SgsnDecides (plan : Result (Plan Unit sgsn.State) Denial) (a : Answer) (x y : View C) : Type 0 where
     pub result : Result Unit Denial
     pub answered : a ≡ called result
-    pub decided : Decided denial tt x.sgsn after result y.sgsn
+    pub decided : Decides plan result x.sgsn y.sgsn
     pub vlrs : y.vlrs ≡ x.vlrs
     pub carrier : y.carrier ≡ x.carrier
 
-  -- the SGSN makes a call that sends
-  pub record SgsnCalls (denial : Option Denial) (after : sgsn.State) (os : List Outgoing) (a : Answer) (x y : View C) : Type 0 where
+  -- the SGSN makes a call that can send
+  pub record SgsnDoes (plan : Result (Plan Unit sgsn.State) Denial) (a : Answer) (x y : View C) : Type 0 where
     pub result : Result Unit Denial
     pub answered : a ≡ called result
-    pub made : Called sgsn.own_of sgsn.last_of puts denial tt x.sgsn after os result x.carrier y.sgsn y.carrier
+    pub made : Does sgsn.own_of sgsn.last_of puts plan result x.sgsn x.carrier y.sgsn y.carrier
     pub vlrs : y.vlrs ≡ x.vlrs
 
   pub record SgsnSettles (i : Imsi) (a : Answer) (x y : View C) : Type 0 where
@@ -82,13 +80,13 @@ module _ {C : Type 0} (takes : C → NodeNumber → Option (List ℕ) → C → 
   pub record VlrEnrols (i : Imsi) (cause : ℕ) (a : Answer) (v : vlr.State) (c : C) (w : vlr.State) (d : C) : Type 0 where
     pub result : Result Unit Denial
     pub answered : a ≡ called result
-    pub decided : Decided (vlr_enrol.enrol_denial v i) tt v (vlr_enrol.with_enrolled v i cause) result w
+    pub decided : Decides (vlr_enrol.enrolling v i cause) result v w
     pub carrier : d ≡ c
 
-  pub record VlrCalls (denial : Option Denial) (after : vlr.State) (os : List Outgoing) (a : Answer) (v : vlr.State) (c : C) (w : vlr.State) (d : C) : Type 0 where
+  pub record VlrDoes (plan : Result (Plan Unit vlr.State) Denial) (a : Answer) (v : vlr.State) (c : C) (w : vlr.State) (d : C) : Type 0 where
     pub result : Result Unit Denial
     pub answered : a ≡ called result
-    pub made : Called vlr.own_of vlr.last_of puts denial tt v after os result c w d
+    pub made : Does vlr.own_of vlr.last_of puts plan result v c w d
 
   pub record VlrDelivers (a : Answer) (v : vlr.State) (c : C) (w : vlr.State) (d : C) : Type 0 where
     pub result : Result Delivery Refusal
@@ -115,16 +113,16 @@ module _ {C : Type 0} (takes : C → NodeNumber → Option (List ℕ) → C → 
 
   -- the call, its answer, and the site before and after it
   abbrev pub Step : Call → Answer → View C → View C → Type 0
-  Step (call.Enrol i code) a x y = SgsnDecides (sgsn_enrol.enrol_denial x.sgsn i code) (sgsn_enrol.enrolled x.sgsn i code) a x y
-  Step (call.Attach i) a x y = SgsnDecides (sgsn_enrol.attach_denial x.sgsn i) (sgsn_enrol.attached x.sgsn i) a x y
-  Step (call.Request i q) a x y = SgsnCalls (request_denial x.sgsn i q) (requested x.sgsn i q) (request_sends x.sgsn i q) a x y
-  Step (call.Detach i code) a x y = SgsnCalls (detach_denial x.sgsn i code) (detached x.sgsn i code) (detach_sends x.sgsn i code) a x y
+  Step (call.Enrol i code) a x y = SgsnDecides (sgsn_enrol.enrolled x.sgsn i code) a x y
+  Step (call.Attach i) a x y = SgsnDecides (sgsn_enrol.attached x.sgsn i) a x y
+  Step (call.Request i q) a x y = SgsnDoes (requested x.sgsn i q) a x y
+  Step (call.Detach i code) a x y = SgsnDoes (detached x.sgsn i code) a x y
   Step (call.Settle i) a x y = SgsnSettles i a x y
   Step (call.EnrolAtVlr n i cause) a x y = AtVlr n.node (VlrEnrols i cause) (is_vlr n.node x.vlrs) a x y
-  Step (call.Page n i t ch) a x y = AtVlr n.node (λ b v. VlrCalls (page_denial v i ch) (paged v) (paging v i t ch) b v) (is_vlr n.node x.vlrs) a x y
-  Step (call.Lose n) a x y = AtNode (is_sgsn n x) (λ b z. SgsnCalls (sgsn_recover.worn_denial z.sgsn) (sgsn_recover.lost z.sgsn) (sgsn_recover.resets z.sgsn) b z) n (λ b v. VlrCalls (vlr_call.worn_denial v) (vlr_recover.lost v) (vlr_recover.resets v) b v) a x y
+  Step (call.Page n i t ch) a x y = AtVlr n.node (λ b v. VlrDoes (paging v i t ch) b v) (is_vlr n.node x.vlrs) a x y
+  Step (call.Lose n) a x y = AtNode (is_sgsn n x) (λ b z. SgsnDoes (sgsn_recover.losing z.sgsn) b z) n (λ b v. VlrDoes (vlr_recover.losing v) b v) a x y
   Step (call.Deliver n) a x y = AtNode (is_sgsn n x) SgsnDelivers n VlrDelivers a x y
-  Step (call.Tick n) a x y = AtNode (is_sgsn n x) (λ b z. SgsnCalls (sgsn_recover.worn_denial z.sgsn) (sgsn_recover.ticked z.sgsn) (sgsn_recover.tick_sends z.sgsn) b z) n (λ b v. VlrCalls (vlr_call.worn_denial v) (vlr_recover.ticked v) (vlr_recover.tick_sends v) b v) a x y
+  Step (call.Tick n) a x y = AtNode (is_sgsn n x) (λ b z. SgsnDoes (sgsn_recover.ticking z.sgsn) b z) n (λ b v. VlrDoes (vlr_recover.ticking v) b v) a x y
 
 -- a new SGSN, the VLRs that it was made with, each made for it, in rising number, and an empty carrier
 pub record New {C : Type 0} (waiting : C → List (List ℕ)) (latest : C → Stamps) (x : View C) : Type 0 where

@@ -10,7 +10,7 @@ use Rattle.station.specs.Sends.{is_worn, Sent}
 use Rattle.sgsn.specs.declared.peer.Peer.{Peer}
 use Rattle.sgsn.specs.Peers.{peer_from}
 use Rattle.sgsn.specs.State.{State, own_of, last_of}
-use Rattle.sgsn.specs.Delivering.{taken_by, sends_by, answer_by, taken, sends, answer, moved_by_frame, sends_by_frame, answer_by_frame, Delivers}
+use Rattle.sgsn.specs.Delivering.{taken_by, taken, moved_by_frame, sends_by_frame, answer_by_frame, Delivers}
 
 pub read_as : {C : Type 0} (takes : C → NodeNumber → Option (List ℕ) → C → Type 0) (own : NodeNumber) (o : Option (Result Frame Fault)) (r : Result Frame Fault) (f : Frame) (c m : C)
     → o ≡ Some r → r ≡ Ok f → Received takes own o c m → Received takes own (Some (Ok f)) c m
@@ -23,16 +23,16 @@ module _ {C : Type 0} (takes : C → NodeNumber → Option (List ℕ) → C → 
       (record { got = Some (Ok f); between = m; received = received; answered = ap Ok answered; after = after; sent = sent })
 
   pub from_peer : (p : Peer) (a : Delivery) (t : State) (d : C) → is_worn s.last ≡ false → Received takes s.own (Some (Ok f)) c m → peer_from f s.peers ≡ Some p
-      → t ≡ taken_by s f p f.message → Sent puts s.own s.last (sends_by s f p f.message) m d → a ≡ answer_by s f.message → Delivers takes puts (Ok a) s c t d
+      → t ≡ (taken_by s f p f.message).after → Sent puts s.own s.last (taken_by s f p f.message).sends m d → a ≡ (taken_by s f p f.message).answer → Delivers takes puts (Ok a) s c t d
   from_peer p a t d fresh received from after sent answered =
       asked a t d fresh received
-      (subst (λ o. t ≡ taken s f o) (sym from) after)
-      (subst (λ o. Sent puts s.own s.last (sends s f o) m d) (sym from) sent)
-      (subst (λ o. a ≡ answer s f o) (sym from) answered)
+      (subst (λ o. t ≡ (taken s f o).after) (sym from) after)
+      (subst (λ o. Sent puts s.own s.last (taken s f o).sends m d) (sym from) sent)
+      (subst (λ o. a ≡ (taken s f o).answer) (sym from) answered)
 
   pub from_stranger : is_worn s.last ≡ false → Received takes s.own (Some (Ok f)) c m → peer_from f s.peers ≡ None → Delivers takes puts (Ok delivery.Done) s c s m
   from_stranger fresh received from =
       asked delivery.Done s m fresh received
-      (subst (λ o. s ≡ taken s f o) (sym from) refl)
-      (subst (λ o. Sent puts s.own s.last (sends s f o) m m) (sym from) (refl, refl))
-      (subst (λ o. delivery.Done ≡ answer s f o) (sym from) refl)
+      (subst (λ o. s ≡ (taken s f o).after) (sym from) refl)
+      (subst (λ o. Sent puts s.own s.last (taken s f o).sends m m) (sym from) (refl, refl))
+      (subst (λ o. delivery.Done ≡ (taken s f o).answer) (sym from) refl)

@@ -7,6 +7,7 @@ use Rattle.std.proofs.lemmas.List.Folds.{list_all-map, list_all-append}
 use Rattle.std.specs.List.{list_all}
 use Rattle.imsi.specs.declared.Imsi.{Imsi}
 use Rattle.imsi.specs.Spelling.{lawful_imsi}
+use Rattle.elements.specs.declared.code.Class.{Class}
 use Rattle.elements.specs.declared.node.NodeNumber.{NodeNumber}
 use Rattle.elements.specs.declared.node.VlrNumber.{VlrNumber}
 use Rattle.messages.specs.declared.message.Message.{Message}
@@ -15,7 +16,7 @@ use Rattle.frames.specs.declared.frame.Frame.{Frame}
 use Rattle.frames.specs.Format.{lawful_nodes}
 use Rattle.directory.specs.Lookup.{at, stored}
 use Rattle.station.specs.declared.row.Row.{Row}
-use Rattle.station.specs.Sends.{may_go}
+use Rattle.station.specs.Sends.{may_go, outgoing_in}
 use Rattle.context.specs.declared.class.ServiceClass.{ServiceClass}
 use Rattle.context.specs.declared.context.Context.{Context}
 use Rattle.context.specs.declared.errand.Errand.TheVariants as errand
@@ -23,12 +24,12 @@ use Rattle.context.specs.declared.errand.Open.{Open}
 use Rattle.context.specs.declared.kind.Request.{Request}
 use Rattle.context.specs.declared.kind.RequestKind.{RequestKind}
 use Rattle.context.specs.declared.kind.DetachKind.{DetachKind}
-use Rattle.context.specs.Codes.{attaches}
-use Rattle.context.specs.Contexts.{whose, has_voice, new_context, attached_now, doubtful, doubtful_at}
-use Rattle.context.specs.Requesting.{requested, request_sends}
-use Rattle.context.specs.Detaching.{detached, detach_sends}
+use Rattle.context.specs.Codes.{attaches, voice_class}
+use Rattle.context.specs.Contexts.{whose, new_context, attached_now, doubtful, doubtful_at}
+use Rattle.context.specs.Requesting.{requested}
+use Rattle.context.specs.Detaching.{detached}
 use Rattle.context.specs.Answering.{answered}
-use Rattle.context.specs.Paging.{paged, page_sends}
+use Rattle.context.specs.Paging.{paged}
 use Rattle.context.specs.Ticking.{expired, context_ticked, context_sends}
 use Rattle.sgsn.specs.declared.peer.Peer.{Peer}
 use Rattle.sgsn.specs.Fitting.{is_one_of, fits_in}
@@ -79,17 +80,17 @@ fits_expired vs o r e f = grind (arith, nat_tests)
 pub fits_settled : (vs : List VlrNumber) (r : Context) → fits_in vs r ≡ true → fits_in vs (settled_errand r.errand r) ≡ true
 fits_settled vs r f = grind (arith, nat_tests)
 
-pub fits_requested : (vs : List VlrNumber) (k : RequestKind) (q : Request) (n : ℕ) (r : Context) → fits_in vs r ≡ true → has_voice r ≡ true → is_one_of vs q.vlr ≡ true → (attaches k || r.attached) ≡ true → fits_in vs (requested k q n r) ≡ true
-fits_requested vs k q n r f voice its has = grind (arith, nat_tests)
+pub fits_requested : (vs : List VlrNumber) (k : RequestKind) (c : Class) (q : Request) (n : ℕ) (r : Context) → fits_in vs r ≡ true → voice_class r.class ≡ Some c → is_one_of vs q.vlr ≡ true → (attaches k || r.attached) ≡ true → fits_in vs (requested k c q n r).0 ≡ true
+fits_requested vs k c q n r f voice its has = grind (arith, nat_tests)
 
-pub fits_detached : (vs : List VlrNumber) (k : DetachKind) (n : ℕ) (r : Context) → fits_in vs r ≡ true → fits_in vs (detached k n r) ≡ true
+pub fits_detached : (vs : List VlrNumber) (k : DetachKind) (n : ℕ) (r : Context) → fits_in vs r ≡ true → fits_in vs (detached k n r).0 ≡ true
 fits_detached vs k n r f = grind (arith, nat_tests)
 
 pub fits_answered : (vs : List VlrNumber) (v : VlrNumber) (n : ℕ) (reset : Option ℕ) (m : Message) (r : Context) → fits_in vs r ≡ true → fits_in vs (answered v n reset m r) ≡ true
 fits_answered vs v n reset m r f = grind (arith, nat_tests)
 
-pub fits_paged : (vs : List VlrNumber) (v : VlrNumber) (r : Context) → fits_in vs r ≡ true → is_one_of vs v ≡ true → fits_in vs (paged v r) ≡ true
-fits_paged vs v r f its = grind (arith, nat_tests)
+pub fits_paged : (vs : List VlrNumber) (v : VlrNumber) (n : ℕ) (r : Context) → fits_in vs r ≡ true → is_one_of vs v ≡ true → fits_in vs (paged v n r).0 ≡ true
+fits_paged vs v n r f its = grind (arith, nat_tests)
 
 pub fits_ticked : (vs : List VlrNumber) (last : ℕ) (r : Context) → fits_in vs r ≡ true → fits_in vs (context_ticked last r) ≡ true
 fits_ticked vs last r f = grind (arith, nat_tests)
@@ -128,13 +129,13 @@ pub reach_one : (own : NodeNumber) (vs : List VlrNumber) (v : VlrNumber) → rea
 reach_one own [] v all its = absurd (true≢false (sym its))
 reach_one own (w ∷ vs) v all its = grind (arith, nat_tests, reach_one own vs v)
 
-pub may_request : (own : NodeNumber) (vs : List VlrNumber) (k : RequestKind) (q : Request) (r : Context) → reaches own vs ≡ true → fits_in vs r ≡ true → is_one_of vs q.vlr ≡ true → lawful_area q.old_area ≡ true → lawful_area q.new_area ≡ true → list_all (may_go own) (request_sends k q r) ≡ true
-may_request own vs k q r all f its old new = grind (arith, nat_tests, reach_one own vs q.vlr all its)
+pub may_request : (own : NodeNumber) (vs : List VlrNumber) (k : RequestKind) (c : Class) (q : Request) (n : ℕ) (r : Context) → reaches own vs ≡ true → fits_in vs r ≡ true → is_one_of vs q.vlr ≡ true → lawful_area q.old_area ≡ true → lawful_area q.new_area ≡ true → list_all (may_go own) (outgoing_in (requested k c q n r).1) ≡ true
+may_request own vs k c q n r all f its old new = grind (arith, nat_tests, reach_one own vs q.vlr all its)
 
-pub may_detach : (own : NodeNumber) (vs : List VlrNumber) (k : DetachKind) (r : Context) → reaches own vs ≡ true → fits_in vs r ≡ true → list_all (may_go own) (detach_sends k r) ≡ true
-may_detach own vs k r all f = grind (arith, nat_tests, reach_one)
+pub may_detach : (own : NodeNumber) (vs : List VlrNumber) (k : DetachKind) (n : ℕ) (r : Context) → reaches own vs ≡ true → fits_in vs r ≡ true → list_all (may_go own) (outgoing_in (detached k n r).1) ≡ true
+may_detach own vs k n r all f = grind (arith, nat_tests, reach_one)
 
-pub may_page : (own : NodeNumber) (vs : List VlrNumber) (v : VlrNumber) (n : ℕ) (r : Context) → reaches own vs ≡ true → fits_in vs r ≡ true → is_one_of vs v ≡ true → list_all (may_go own) (page_sends v n r) ≡ true
+pub may_page : (own : NodeNumber) (vs : List VlrNumber) (v : VlrNumber) (n : ℕ) (r : Context) → reaches own vs ≡ true → fits_in vs r ≡ true → is_one_of vs v ≡ true → list_all (may_go own) (outgoing_in (paged v n r).1) ≡ true
 may_page own vs v n r all f its = grind (arith, nat_tests, reach_one)
 
 pub may_tick : (own : NodeNumber) (vs : List VlrNumber) (r : Context) → reaches own vs ≡ true → fits_in vs r ≡ true → list_all (may_go own) (context_sends r) ≡ true

@@ -17,8 +17,8 @@ held_as s i r new e same = ap (λ j. is_some (record_at s j)) (same ∙ at-whose
 pub answered_whose : (v : VlrNumber) (n : ℕ) (reset : Option ℕ) (m : Message) (r : Context) → whose (answered v n reset m r) ≡ whose r
 answered_whose v n reset m r = grind (arith, nat_tests)
 
-pub paged_whose : (v : VlrNumber) (r : Context) → whose (paged v r) ≡ whose r
-paged_whose v r = grind (arith, nat_tests)
+pub paged_whose : (v : VlrNumber) (n : ℕ) (r : Context) → whose (paged v n r).0 ≡ whose r
+paged_whose v n r = grind (arith, nat_tests)
 
 pub doubtful_whose : (v : VlrNumber) (r : Context) → whose (doubtful_at v r) ≡ whose r
 doubtful_whose v r = grind (arith, nat_tests)

@@ -7,9 +7,9 @@ pub mod Loops
 pub mod Makes
 pub mod Moves
 pub mod Places
-pub mod Replied
 pub mod Requests
 pub mod Senders
 pub mod Stamps
 pub mod Ticks
 pub mod Turns
+pub mod Granted

@@ -1,26 +1,23 @@
 -- A loss, and a tick, at an SGSN.
-use Rattle.std.specs.Prelude.{ℕ, ◌+◌, not, List, [], ◌∷◌, ◌++◌, map, length, None, Option}
+use Rattle.std.specs.Prelude.{ℕ, ◌+◌, List, [], ◌∷◌, ◌++◌, map, length, Result}
 use Rattle.station.specs.declared.denial.Denial.{Denial}
-use Rattle.station.specs.declared.denial.Denial.TheVariants as denial
 use Rattle.station.specs.declared.sending.Outgoing.{Outgoing}
-use Rattle.station.specs.Calls.{unless}
-use Rattle.station.specs.Sends.{is_worn}
+use Rattle.station.specs.Calls.{Plan, plan, unless_worn}
 use Rattle.context.specs.declared.context.Context.{Context}
 use Rattle.context.specs.Contexts.{doubtful}
 use Rattle.context.specs.Ticking.{context_ticked, context_sends}
 use Rattle.sgsn.specs.Peers.{peers_lost, peers_resets, peers_ticked, peers_sends, doubted_by_all}
 use Rattle.sgsn.specs.State.{State}
 
--- where the only question is whether the end is worn
-abbrev pub worn_denial : State → Option Denial
-worn_denial s = unless (not (is_worn s.last)) denial.Worn None
-
 -- no record says that a VLR is sure, and each VLR is told
 abbrev pub lost : State → State
-lost s = record { own = s.own; last = s.last + length s.peers; peers = peers_lost s.last s.peers; records = map doubtful s.records }
+lost s = record s { last = s.last + length s.peers; peers = peers_lost s.last s.peers; records = map doubtful s.records }
 
 abbrev pub resets : State → List Outgoing
 resets s = peers_resets s.own s.peers
+
+abbrev pub losing : State → Result (Plan Unit State) Denial
+losing s = unless_worn s.last (plan (lost s) (resets s))
 
 -- one tick of all records, in order, where the last stamp before was this one
 abbrev pub records_ticked : ℕ → List Context → List Context
@@ -39,4 +36,7 @@ abbrev pub last_between : State → ℕ
 last_between s = s.last + length (records_sends s.records)
 
 abbrev pub ticked : State → State
-ticked s = record { own = s.own; last = s.last + length (tick_sends s); peers = peers_ticked s.own (last_between s) s.peers; records = doubted_by_all s.peers (records_ticked s.last s.records) }
+ticked s = record s { last = s.last + length (tick_sends s); peers = peers_ticked s.own (last_between s) s.peers; records = doubted_by_all s.peers (records_ticked s.last s.records) }
+
+abbrev pub ticking : State → Result (Plan Unit State) Denial
+ticking s = unless_worn s.last (plan (ticked s) (tick_sends s))

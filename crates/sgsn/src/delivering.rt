@@ -1,11 +1,11 @@
 // Taking a frame from a VLR.
 ghost use Rattle.std.specs.Prelude.{◌≡◌, ◌<◌, true, map};
-ghost use Rattle.station.specs.Sends.{HasStamps, Sent};
+ghost use Rattle.station.specs.Sends.{HasStamps};
 ghost use Rattle.context.specs.Contexts.{doubtful_at};
 ghost use Rattle.sgsn.specs.Fitting.{is_one_of};
 ghost use Rattle.sgsn.specs.Peers.{SentBy};
-ghost use Rattle.sgsn.specs.State.{state_of, vlrs_of, record_at, with_records, with_row_at};
-ghost use Rattle.sgsn.specs.Delivering.{noted, reset_by, acknowledged_by, answered_by, paged_by, sends_for_page, can_be_paged, taken_by, sends_by, answer_by, Delivers};
+ghost use Rattle.sgsn.specs.State.{state_of, vlrs_of, record_at, with_records, with_row_at, Did};
+ghost use Rattle.sgsn.specs.Delivering.{noted, reset_by, acknowledged_by, answered_by, paged_by, taken_by, Delivers};
 
 use crate::peer::Peer;
 use crate::peers::{place_of_sender, set_row};
@@ -65,15 +65,13 @@ impl Sgsn {
     ) -> bool
         requires its { is_one_of (vlrs_of (state_of self.old)) peer.vlr ≡ true }
         requires stamps { HasStamps 1 self.old.sender }
-        ensures state { state_of self.new ≡ paged_by (state_of self.old) frame peer (record_at (state_of self.old) imsi) }
-        ensures sent { Sent C.Carrier.puts self.old.sender.own self.old.sender.last (sends_for_page frame peer (record_at (state_of self.old) imsi)) carrier.old carrier.new }
-        ensures ordered { result ≡ can_be_paged (record_at (state_of self.old) imsi) }
+        ensures { Did C.Carrier.puts (paged_by (state_of self.old) frame peer (record_at (state_of self.old) imsi)) result self.old carrier.old self.new carrier.new }
     {
         let Some(before) = self.record_of(imsi) else {
             return true;
         };
-        let outgoing = before.page_sends(peer.vlr, frame.stamp);
-        self.keep_and_send(carrier, before.paged(peer.vlr), outgoing);
+        let (after, outgoing) = before.paged(peer.vlr, frame.stamp);
+        self.keep_and_send(carrier, after, outgoing);
         before.attached
     }
 
@@ -94,9 +92,7 @@ impl Sgsn {
     fn take<C: InOrder>(&mut self, carrier: &mut C, i: usize, peer: Peer, frame: Frame) -> Delivery
         requires sender { SentBy frame i peer (state_of self.old).peers }
         requires stamps { HasStamps 1 self.old.sender }
-        ensures state { state_of self.new ≡ taken_by (state_of self.old) frame peer frame.message }
-        ensures sent { Sent C.Carrier.puts self.old.sender.own self.old.sender.last (sends_by (state_of self.old) frame peer frame.message) carrier.old carrier.new }
-        ensures answer { result ≡ answer_by (state_of self.old) frame.message }
+        ensures { Did C.Carrier.puts (taken_by (state_of self.old) frame peer frame.message) result self.old carrier.old self.new carrier.new }
     {
         match frame.message {
             Message::Paging {

@@ -1,34 +1,16 @@
 // A detach: a mobile that gives up packet service, voice service, or both.
-ghost use Rattle.std.specs.Prelude.{◌≡◌, Some};
-ghost use Rattle.station.specs.Calls.{Called};
-ghost use Rattle.sgsn.specs.State.{state_of, own_of, last_of};
+ghost use Rattle.station.specs.Calls.{answering};
+ghost use Rattle.sgsn.specs.State.{Does};
 ghost use Rattle.sgsn.specs.Replies.{reply_to};
-ghost use Rattle.sgsn.specs.Detaching.{record_denial, detach_denial, detached, detach_sends};
+ghost use Rattle.sgsn.specs.Detaching.{detached};
 
 use crate::reply::Reply;
 use crate::sgsn::Sgsn;
 use carrier::carrier::Carrier;
 use carrier::in_order::InOrder;
-use context::context::Context;
 use context::kind::DetachKind;
 use imsi::Imsi;
 use station::denial::Denial;
-
-// Why a detach of the mobile with this record is denied, if it is. An IMSI detach wants a VLR that can be told.
-fn detach_denial(context: Context, kind: DetachKind) -> Option<Denial>
-    ensures { result ≡ record_denial kind (Some context) }
-{
-    if context.errand.owes() {
-        return Some(Denial::ReplyOwed);
-    }
-    if !context.attached {
-        return Some(Denial::NotAttached);
-    }
-    if kind == DetachKind::Imsi && context.mark.node().is_none() {
-        return Some(Denial::WrongMark);
-    }
-    None
-}
 
 impl Sgsn {
     // Detaches a mobile in the way with this code. A reply is owed to the mobile from now on, which its record keeps.
@@ -38,7 +20,7 @@ impl Sgsn {
         imsi: Imsi,
         kind: u8,
     ) -> Result<(), Denial>
-        ensures { Called own_of last_of C.Carrier.puts (detach_denial (state_of self.old) imsi kind) tt (state_of self.old) (detached (state_of self.old) imsi kind) (detach_sends (state_of self.old) imsi kind) result carrier.old (state_of self.new) carrier.new }
+        ensures { Does C.Carrier.puts (λ s. detached s imsi kind) result self.old carrier.old self.new carrier.new }
     {
         if self.sender.is_worn() {
             return Err(Denial::Worn);
@@ -52,11 +34,18 @@ impl Sgsn {
         let Some(context) = self.record_of(imsi) else {
             return Err(Denial::NotEnrolled);
         };
-        if let Some(denial) = detach_denial(context, kind) {
-            return Err(denial);
+        if context.errand.owes() {
+            return Err(Denial::ReplyOwed);
         }
-        let after = context.detached(kind, self.sender.last + 1);
-        self.keep_and_send(carrier, after, context.detach_sends(kind));
+        if !context.attached {
+            return Err(Denial::NotAttached);
+        }
+        // an IMSI detach wants a VLR that can be told
+        if kind == DetachKind::Imsi && context.mark.node().is_none() {
+            return Err(Denial::WrongMark);
+        }
+        let (after, outgoing) = context.detached(kind, self.sender.last + 1);
+        self.keep_and_send(carrier, after, outgoing);
         Ok(())
     }
 
@@ -67,7 +56,7 @@ impl Sgsn {
         imsi: Imsi,
         kind: u8,
     ) -> Result<Reply, Denial>
-        ensures { Called own_of last_of C.Carrier.puts (detach_denial (state_of self.old) imsi kind) (reply_to (state_of self.old).own imsi) (state_of self.old) (detached (state_of self.old) imsi kind) (detach_sends (state_of self.old) imsi kind) result carrier.old (state_of self.new) carrier.new }
+        ensures { Does C.Carrier.puts (λ s. answering (reply_to s.own imsi) (detached s imsi kind)) result self.old carrier.old self.new carrier.new }
     {
         let own = self.sender.own;
         self.open_detach(carrier, imsi, kind)?;

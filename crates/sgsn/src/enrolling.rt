@@ -1,7 +1,6 @@
 // Enrolling a mobile, and giving it packet service.
-ghost use Rattle.station.specs.Calls.{Decided};
-ghost use Rattle.sgsn.specs.State.{state_of};
-ghost use Rattle.sgsn.specs.Enrolling.{enrol_denial, enrolled, attach_denial, attached};
+ghost use Rattle.sgsn.specs.State.{Decides};
+ghost use Rattle.sgsn.specs.Enrolling.{enrolled, attached};
 
 use crate::sgsn::Sgsn;
 use context::class::ServiceClass;
@@ -13,7 +12,7 @@ use station::denial::Denial;
 impl Sgsn {
     // Gives a new mobile a record: it uses the services of the class with this code, and is detached.
     pub fn enrol(&mut self, imsi: Imsi, class: u8) -> Result<(), Denial>
-        ensures { Decided (enrol_denial (state_of self.old) imsi class) tt (state_of self.old) (enrolled (state_of self.old) imsi class) result (state_of self.new) }
+        ensures { Decides (λ s. enrolled s imsi class) result self.old self.new }
     {
         if self.sender.is_worn() {
             return Err(Denial::Worn);
@@ -36,7 +35,7 @@ impl Sgsn {
 
     // Gives a mobile packet service.
     pub fn attach(&mut self, imsi: Imsi) -> Result<(), Denial>
-        ensures { Decided (attach_denial (state_of self.old) imsi) tt (state_of self.old) (attached (state_of self.old) imsi) result (state_of self.new) }
+        ensures { Decides (λ s. attached s imsi) result self.old self.new }
     {
         if self.sender.is_worn() {
             return Err(Denial::Worn);

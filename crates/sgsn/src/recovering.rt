@@ -2,13 +2,12 @@
 ghost use Rattle.std.specs.Prelude.{◌≡◌, ◌+◌, ◌*◌, true, [], ◌∷◌, length};
 ghost use Rattle.std.specs.List.{list_all};
 ghost use Rattle.frames.specs.Format.{lawful_nodes};
-ghost use Rattle.station.specs.Calls.{Called};
 ghost use Rattle.station.specs.Rows.{lost_row};
 ghost use Rattle.station.specs.Sends.{HasStamps, Sent, may_go};
 ghost use Rattle.station.specs.Ticks.{CanReach, reset_to, row_ticked};
 ghost use Rattle.sgsn.specs.Peers.{with_row, peer_sends, peers_lost, peers_resets, peers_ticked, peers_sends, doubted_by, doubted_by_all};
-ghost use Rattle.sgsn.specs.Recovering.{worn_denial, lost, resets, records_ticked, records_sends, ticked, tick_sends};
-ghost use Rattle.sgsn.specs.State.{state_of, own_of, last_of};
+ghost use Rattle.sgsn.specs.Recovering.{losing, records_ticked, records_sends, ticking};
+ghost use Rattle.sgsn.specs.State.{Does};
 
 use crate::peer::Peer;
 use crate::sgsn::Sgsn;
@@ -109,7 +108,7 @@ fn tick_rows<C: InOrder>(
 impl Sgsn {
     // The SGSN lost its marks: none is sure any more, and each VLR is told, in rising number.
     pub fn lose<C: InOrder>(&mut self, carrier: &mut C) -> Result<(), Denial>
-        ensures { Called own_of last_of C.Carrier.puts (worn_denial (state_of self.old)) tt (state_of self.old) (lost (state_of self.old)) (resets (state_of self.old)) result carrier.old (state_of self.new) carrier.new }
+        ensures { Does C.Carrier.puts losing result self.old carrier.old self.new carrier.new }
     {
         if self.sender.is_worn() {
             return Err(Denial::Worn);
@@ -122,7 +121,7 @@ impl Sgsn {
 
     // One tick: of each record in order, and then toward each VLR in rising number.
     pub fn tick<C: InOrder>(&mut self, carrier: &mut C) -> Result<(), Denial>
-        ensures { Called own_of last_of C.Carrier.puts (worn_denial (state_of self.old)) tt (state_of self.old) (ticked (state_of self.old)) (tick_sends (state_of self.old)) result carrier.old (state_of self.new) carrier.new }
+        ensures { Does C.Carrier.puts ticking result self.old carrier.old self.new carrier.new }
     {
         if self.sender.is_worn() {
             return Err(Denial::Worn);

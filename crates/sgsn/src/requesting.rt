@@ -1,19 +1,18 @@
 // A request: a mobile that is to be served by a VLR.
-ghost use Rattle.std.specs.Prelude.{◌≡◌, Some};
+ghost use Rattle.std.specs.Prelude.{◌≡◌};
 ghost use Rattle.std.specs.List.{list_any};
 ghost use Rattle.elements.specs.Nodes.{same_node};
-ghost use Rattle.station.specs.Calls.{Called};
+ghost use Rattle.station.specs.Calls.{answering};
 ghost use Rattle.sgsn.specs.Fitting.{is_one_of};
-ghost use Rattle.sgsn.specs.State.{state_of, vlrs_of, own_of, last_of};
+ghost use Rattle.sgsn.specs.State.{state_of, vlrs_of, Does};
 ghost use Rattle.sgsn.specs.Replies.{reply_to};
-ghost use Rattle.sgsn.specs.Requesting.{record_denial, request_denial, requested, request_sends};
+ghost use Rattle.sgsn.specs.Requesting.{requested};
 
 use crate::peer::Peer;
 use crate::reply::Reply;
 use crate::sgsn::Sgsn;
 use carrier::carrier::Carrier;
 use carrier::in_order::InOrder;
-use context::context::Context;
 use context::kind::{Request, RequestKind};
 use elements::node::VlrNumber;
 use imsi::Imsi;
@@ -34,30 +33,6 @@ impl Sgsn {
         is_one_of(&self.peers[0..self.count], vlr)
     }
 
-    // Why a request of the mobile with this record is denied, if it is.
-    fn request_denial(
-        &self,
-        context: Context,
-        kind: RequestKind,
-        request: Request,
-    ) -> Option<Denial>
-        ensures { result ≡ record_denial (state_of self.now) request kind (Some context) }
-    {
-        if context.class.voice().is_none() {
-            return Some(Denial::WrongClass);
-        }
-        if !self.has_vlr(request.vlr) {
-            return Some(Denial::NotItsVlr);
-        }
-        if context.errand.owes() {
-            return Some(Denial::ReplyOwed);
-        }
-        if !kind.attaches() && !context.attached {
-            return Some(Denial::NotAttached);
-        }
-        None
-    }
-
     // Has a VLR serve a mobile. A reply is owed to the mobile from now on, which its record keeps.
     pub fn open_request<C: InOrder>(
         &mut self,
@@ -65,7 +40,7 @@ impl Sgsn {
         imsi: Imsi,
         request: Request,
     ) -> Result<(), Denial>
-        ensures { Called own_of last_of C.Carrier.puts (request_denial (state_of self.old) imsi request) tt (state_of self.old) (requested (state_of self.old) imsi request) (request_sends (state_of self.old) imsi request) result carrier.old (state_of self.new) carrier.new }
+        ensures { Does C.Carrier.puts (λ s. requested s imsi request) result self.old carrier.old self.new carrier.new }
     {
         if self.sender.is_worn() {
             return Err(Denial::Worn);
@@ -79,11 +54,20 @@ impl Sgsn {
         let Some(context) = self.record_of(imsi) else {
             return Err(Denial::NotEnrolled);
         };
-        if let Some(denial) = self.request_denial(context, kind, request) {
-            return Err(denial);
+        let Some(class) = context.class.voice() else {
+            return Err(Denial::WrongClass);
+        };
+        if !self.has_vlr(request.vlr) {
+            return Err(Denial::NotItsVlr);
         }
-        let after = context.requested(kind, request, self.sender.last + 1);
-        self.keep_and_send(carrier, after, context.request_sends(kind, request));
+        if context.errand.owes() {
+            return Err(Denial::ReplyOwed);
+        }
+        if !kind.attaches() && !context.attached {
+            return Err(Denial::NotAttached);
+        }
+        let (after, outgoing) = context.requested(kind, class, request, self.sender.last + 1);
+        self.keep_and_send(carrier, after, outgoing);
         Ok(())
     }
 
@@ -94,7 +78,7 @@ impl Sgsn {
         imsi: Imsi,
         request: Request,
     ) -> Result<Reply, Denial>
-        ensures { Called own_of last_of C.Carrier.puts (request_denial (state_of self.old) imsi request) (reply_to (state_of self.old).own imsi) (state_of self.old) (requested (state_of self.old) imsi request) (request_sends (state_of self.old) imsi request) result carrier.old (state_of self.new) carrier.new }
+        ensures { Does C.Carrier.puts (λ s. answering (reply_to s.own imsi) (requested s imsi request)) result self.old carrier.old self.new carrier.new }
     {
         let own = self.sender.own;
         self.open_request(carrier, imsi, request)?;

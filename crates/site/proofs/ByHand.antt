@@ -1,11 +1,10 @@
 -- A call by hand is the same step as the call that keeps no reply, and stands under the same law.
-use Rattle.std.proofs.Common.{◌≡◌, ℕ, Bool, true, false, cond, List, Ok, Err, Some, None, Option, Result, sym, refl, ap, ◌∙◌, subst}
+use Rattle.std.proofs.Common.{◌≡◌, ℕ, Bool, true, false, cond, List, Ok, Err, Option, Result, sym, refl, ap, ◌∙◌, subst}
 use Rattle.elements.specs.declared.node.NodeNumber.{NodeNumber}
 use Rattle.carrier.specs.Order.{Stamps}
 use Rattle.station.specs.declared.denial.Denial.{Denial}
 use Rattle.station.specs.declared.denial.Denial.TheVariants as denial
-use Rattle.station.specs.declared.sending.Outgoing.{Outgoing}
-use Rattle.station.specs.Calls.{Called}
+use Rattle.station.specs.Calls.{Plan, answering, Does}
 use Rattle.context.specs.declared.errand.Verdict.{Verdict}
 use Rattle.sgsn.specs.declared.reply.Reply.{Reply}
 use Rattle.sgsn.specs.Replies.{owed_to}
@@ -13,7 +12,7 @@ use Rattle.sgsn.specs.Settling.{settling, settling_reply, after_settling, or_han
 use Rattle.sgsn.specs.State as sgsn
 use Rattle.law.specs.Answers.{settled}
 use Rattle.law.specs.Laws.{Law}
-use Rattle.law.specs.Steps.{Events, Came, SgsnCalls}
+use Rattle.law.specs.Steps.{Events, Came, SgsnDoes}
 use Rattle.law.specs.Tables.{View}
 use Rattle.law.proofs.Carried.{Carries}
 use Rattle.law.proofs.Lawful.{law_after, law_step}
@@ -25,9 +24,9 @@ told p (Ok v) = refl
 told p (Err d) = refl
 
 module _ {C : Type 0} (takes : C → NodeNumber → Option (List ℕ) → C → Type 0) (puts : C → List ℕ → C → Type 0) where
-  pub as_called : (d : Option Denial) (p : Reply) (after : sgsn.State) (os : List Outgoing) (r : Result Reply Denial) (x y : View C) → Called sgsn.own_of sgsn.last_of puts d p x.sgsn after os r x.carrier y.sgsn y.carrier → y.vlrs ≡ x.vlrs → SgsnCalls takes puts d after os (asked r) x y
-  as_called (Some d) p after os r x y m e = record { result = Err d; answered = ap asked m.0; made = (refl, m.1, m.2); vlrs = e }
-  as_called None p after os r x y m e = record { result = Ok tt; answered = ap asked m.0; made = (refl, m.1, m.2); vlrs = e }
+  pub as_done : (p : Reply) (plan : Result (Plan Unit sgsn.State) Denial) (r : Result Reply Denial) (x y : View C) → Does sgsn.own_of sgsn.last_of puts (answering p plan) r x.sgsn x.carrier y.sgsn y.carrier → y.vlrs ≡ x.vlrs → SgsnDoes takes puts plan (asked r) x y
+  as_done p (Err d) r x y m e = record { result = Err d; answered = ap asked m.0; made = (refl, m.1, m.2); vlrs = e }
+  as_done p (Ok o) r x y m e = record { result = Ok o.answer; answered = ap asked m.0; made = (refl, m.1, m.2); vlrs = e }
 
   settles_as : (b : Bool) (p : Reply) (r : Result Verdict (Denial × Reply)) (x y : View C) → (q : Result Verdict Denial) → q ≡ cond b (settling x.sgsn (owed_to p)) (Err denial.NoSuchReply) → r ≡ or_handed_back p q → y.sgsn ≡ after_settling x.sgsn (owed_to p) q → y.vlrs ≡ x.vlrs → y.carrier ≡ x.carrier → SettlesAs takes puts b p r x y
   settles_as true p r x y q e value state vlrs carrier = record {

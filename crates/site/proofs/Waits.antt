@@ -1,5 +1,5 @@
 -- Ticks until a verdict is there, and its settling, are calls that can be made.
-use Rattle.std.proofs.Common.{◌≡◌, ℕ, zero, suc, Bool, true, false, not, cond, List, Ok, Some, None, Option, Result, sym, refl, subst}
+use Rattle.std.proofs.Common.{◌≡◌, ℕ, zero, suc, Bool, true, false, not, List, Ok, Option, Result, sym, refl, subst}
 use Rattle.std.proofs.lemmas.Bool.{and_parts}
 use Rattle.elements.specs.declared.node.NodeNumber.{NodeNumber}
 use Rattle.elements.specs.Nodes.{same_node}
@@ -7,21 +7,20 @@ use Rattle.carrier.specs.Nodes.{own_node}
 use Rattle.carrier.specs.Order.{Stamps}
 use Rattle.station.specs.declared.denial.Denial.{Denial}
 use Rattle.station.specs.declared.denial.Denial.TheVariants as denial
-use Rattle.station.specs.Calls.{Called}
+use Rattle.station.specs.Calls.{plan, ask, Does}
 use Rattle.station.specs.Sends.{is_worn, Sent}
 use Rattle.context.specs.declared.errand.Verdict.{Verdict}
 use Rattle.sgsn.specs.declared.reply.Reply.{Reply}
 use Rattle.sgsn.specs.Awaiting.{is_open_in, Ticked, SettledInTime}
-use Rattle.sgsn.specs.Recovering.{worn_denial, ticked, tick_sends}
+use Rattle.sgsn.specs.Recovering.{ticked, tick_sends, ticking}
 use Rattle.sgsn.specs.Replies.{owed_by, owed_to}
 use Rattle.sgsn.specs.State as sgsn
-use Rattle.vlr.specs.Calls as vlr_call
 use Rattle.vlr.specs.Recovering as vlr_recover
 use Rattle.vlr.specs.State as vlr
 use Rattle.law.specs.declared.call.Call.TheVariants as call
 use Rattle.law.specs.declared.call.Answer.TheVariants as answer
 use Rattle.law.specs.Laws.{Law}
-use Rattle.law.specs.Steps.{Events, Came, Step, SgsnCalls, AtNode, VlrCalls}
+use Rattle.law.specs.Steps.{Events, Came, Step, SgsnDoes, AtNode, VlrDoes}
 use Rattle.law.specs.Steps.Came.{next}
 use Rattle.law.specs.Tables.{View}
 use Rattle.law.proofs.Carried.{Carries}
@@ -35,18 +34,18 @@ module _ {C : Type 0} (waiting : C → List (List ℕ)) (latest : C → Stamps) 
   Reached x = (es : Events) × Came waiting latest takes puts es x
 
   -- a tick that is not denied
-  tick_made : (s : sgsn.State) (b : Bool) (c d : C) → not (is_worn s.last) ≡ b → b ≡ true → Sent puts s.own s.last (tick_sends s) c d → Called sgsn.own_of sgsn.last_of puts (cond b None (Some denial.Worn)) (tt {0}) s (ticked s) (tick_sends s) (Ok (tt {0})) c (ticked s) d
-  tick_made s b c d e t sent = subst (λ k. Called sgsn.own_of sgsn.last_of puts (cond k None (Some denial.Worn)) (tt {0}) s (ticked s) (tick_sends s) (Ok (tt {0})) c (ticked s) d) (sym t) (refl, refl, sent)
+  tick_made : (s : sgsn.State) (b : Bool) (c d : C) → not (is_worn s.last) ≡ b → b ≡ true → Sent puts s.own s.last (tick_sends s) c d → Does sgsn.own_of sgsn.last_of puts (ask b denial.Worn (Ok (plan (ticked s) (tick_sends s)))) (Ok (tt {0})) s c (ticked s) d
+  tick_made s b c d e t sent = subst (λ k. Does sgsn.own_of sgsn.last_of puts (ask k denial.Worn (Ok (plan (ticked s) (tick_sends s)))) (Ok (tt {0})) s c (ticked s) d) (sym t) (refl, refl, sent)
 
   tick_step : (s : sgsn.State) (vs : List vlr.State) (c d : C) → not (is_worn s.last) ≡ true → Sent puts s.own s.last (tick_sends s) c d → Step takes puts (call.Tick s.own) answer.Done (record { sgsn = s; vlrs = vs; carrier = c }) (record { sgsn = ticked s; vlrs = vs; carrier = d })
   tick_step s vs c d fresh sent =
-      let made : SgsnCalls takes puts (worn_denial s) (ticked s) (tick_sends s) answer.Done (record { sgsn = s; vlrs = vs; carrier = c }) (record { sgsn = ticked s; vlrs = vs; carrier = d }) = record {
+      let made : SgsnDoes takes puts (ticking s) answer.Done (record { sgsn = s; vlrs = vs; carrier = c }) (record { sgsn = ticked s; vlrs = vs; carrier = d }) = record {
         result = Ok (tt {0});
         answered = refl;
         made = tick_made s (not (is_worn s.last)) c d refl fresh sent;
         vlrs = refl;
       } in
-      subst (λ b. AtNode takes puts b (λ a z. SgsnCalls takes puts (worn_denial z.sgsn) (ticked z.sgsn) (tick_sends z.sgsn) a z) s.own (λ a v. VlrCalls takes puts (vlr_call.worn_denial v) (vlr_recover.ticked v) (vlr_recover.tick_sends v) a v) answer.Done (record { sgsn = s; vlrs = vs; carrier = c }) (record { sgsn = ticked s; vlrs = vs; carrier = d })) (sym (own_node s.own)) made
+      subst (λ b. AtNode takes puts b (λ a z. SgsnDoes takes puts (ticking z.sgsn) a z) s.own (λ a v. VlrDoes takes puts (vlr_recover.ticking v) a v) answer.Done (record { sgsn = s; vlrs = vs; carrier = c }) (record { sgsn = ticked s; vlrs = vs; carrier = d })) (sym (own_node s.own)) made
 
   -- so many ticks
   ticks_reach : (p : Reply) (n : ℕ) (s t : sgsn.State) (vs : List vlr.State) (c e : C) → Ticked puts p n s c t e → Reached (record { sgsn = s; vlrs = vs; carrier = c }) → Reached (record { sgsn = t; vlrs = vs; carrier = e })

@@ -1,2 +1,6 @@
+pub mod Answering
 pub mod Chains
+pub mod EachTurn
 pub mod Fronts
+pub mod Questions
+pub mod Turns

@@ -5,3 +5,4 @@ pub mod Rows
 pub mod Sends
 pub mod Ticks
 pub mod Receiving
+pub mod Each

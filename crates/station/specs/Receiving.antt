@@ -44,16 +44,7 @@ mobile_in (ImsiDetachAcknowledge i t) = Some i
 abbrev pub names_sender : NodeNumber → Message → Bool
 names_sender n (Reset e) = same_node e n
 names_sender n (ResetAcknowledge e) = same_node e n
-names_sender n (Paging i t c) = true
-names_sender n (PagingFailure i c) = true
-names_sender n (MobileStatus i c) = true
-names_sender n (LuRequest i u o a c) = true
-names_sender n (LuAccept i a) = true
-names_sender n (LuReject i c) = true
-names_sender n (GprsDetachIndication i t) = true
-names_sender n (GprsDetachAcknowledge i t) = true
-names_sender n (ImsiDetachIndication i t) = true
-names_sender n (ImsiDetachAcknowledge i t) = true
+names_sender n k = true
 
 -- this peer sent the frame, and the frame names no other
 abbrev pub is_from : NodeNumber → Frame → Bool

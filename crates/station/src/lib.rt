@@ -2,6 +2,7 @@
 #![tactic(auto)]
 
 pub mod denial;
+pub mod each;
 pub mod mark;
 pub mod receiving;
 pub mod row;

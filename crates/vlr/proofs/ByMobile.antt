@@ -1,5 +1,5 @@
 -- What each call does to the record of one mobile.
-use Rattle.std.proofs.Common.{◌≡◌, ℕ, Bool, true, false, cond, Some, None, Option, Result, sym, refl, ap, ◌∙◌}
+use Rattle.std.proofs.Common.{◌≡◌, ℕ, Bool, true, false, cond, Some, None, Ok, Err, Option, Result, sym, refl, ap, ◌∙◌, subst}
 use Rattle.std.specs.Option.{option_map}
 use Rattle.elements.specs.declared.node.SgsnNumber.{SgsnNumber}
 use Rattle.imsi.specs.declared.Imsi.{Imsi}
@@ -12,12 +12,13 @@ use Rattle.directory.proofs.Lookups.{at-map, at-stored, at-whose, same_true}
 use Rattle.vlr.specs.declared.record.Record.{Record}
 use Rattle.vlr.specs.Records.{doubtful, confirmed, unmarked}
 use Rattle.vlr.specs.Moves.{moved}
+use Rattle.vlr.proofs.Granted.{enrol_granted}
 use Rattle.vlr.specs.State.{State, whose}
 use Rattle.vlr.specs.Delivering.{changed, records_after, taken}
 use Rattle.vlr.specs.Recovering.{lost}
 use Rattle.station.specs.declared.denial.Denial.{Denial}
-use Rattle.station.specs.Calls.{Decided}
-use Rattle.vlr.specs.Enrolling.{enrolled, enrol_denial, with_enrolled}
+use Rattle.station.specs.Calls.{Plan, Decides}
+use Rattle.vlr.specs.Enrolling.{enrolled, with_enrolled, enrolling}
 use Rattle.vlr.specs.Laws.{record_at, by_message, by_enrolment, if_about, unless_denied, ByMobile}
 use Rattle.vlr.proofs.Enrolls.{its_own}
 
@@ -90,9 +91,10 @@ enrolled-at s i c m =
     ∙ its_record s i m (at whose s.records i) (λ o. Some (enrolled i c o)) (at whose s.records m) (same m i) refl refl
 
 -- what a call that is not denied does is so after any call, unless it is denied
-decided_at : (s t after : State) (f : Imsi → Option Record → Option Record) (d : Option Denial) (r : Result Unit Denial) → ByMobile s after f → Decided d tt s after r t → ByMobile s t (λ m o. unless_denied d o (f m o))
-decided_at s t after f (Some d) r law is = λ m. ap (λ x. record_at x m) is.1
-decided_at s t after f None r law is = λ m. ap (λ x. record_at x m) is.1 ∙ law m
+decided_at : (s t : State) (f : Imsi → Option Record → Option Record) (plan : Result (Plan Unit State) Denial) (r : Result Unit Denial) → ((p : Plan Unit State) → plan ≡ Ok p → ByMobile s p.after f) → Decides plan r s t → ByMobile s t (λ m o. unless_denied plan o (f m o))
+decided_at s t f (Err d) r law is = λ m. ap (λ x. record_at x m) is.1
+decided_at s t f (Ok p) r law is = λ m. ap (λ x. record_at x m) is.1 ∙ law p refl m
 
-pub enrolment : (s t : State) (i : Imsi) (c : ℕ) (r : Result Unit Denial) → Decided (enrol_denial s i) tt s (with_enrolled s i c) r t → ByMobile s t (by_enrolment s i c)
-enrolment s t i c r is = decided_at s t (with_enrolled s i c) (λ m o. cond (same m i) (Some (enrolled i c o)) o) (enrol_denial s i) r (enrolled-at s i c) is
+pub enrolment : (s t : State) (i : Imsi) (c : ℕ) (r : Result Unit Denial) → Decides (enrolling s i c) r s t → ByMobile s t (by_enrolment s i c)
+enrolment s t i c r is = decided_at s t (λ m o. cond (same m i) (Some (enrolled i c o)) o) (enrolling s i c) r
+    (λ p e. subst (λ u. ByMobile s u.after (λ m o. cond (same m i) (Some (enrolled i c o)) o)) (enrol_granted s i c p e) (enrolled-at s i c)) is

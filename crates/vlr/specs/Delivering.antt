@@ -4,7 +4,7 @@ use Rattle.imsi.specs.declared.Imsi.{Imsi}
 use Rattle.elements.specs.declared.node.NodeNumber.{NodeNumber}
 use Rattle.frames.specs.declared.frame.Frame.{Frame}
 use Rattle.messages.specs.declared.message.Message.{Message}
-use Rattle.messages.specs.declared.message.Message.TheVariants.{Paging, PagingFailure, MobileStatus, LuRequest, LuAccept, LuReject, Reset, ResetAcknowledge, GprsDetachIndication, GprsDetachAcknowledge, ImsiDetachIndication, ImsiDetachAcknowledge}
+use Rattle.messages.specs.declared.message.Message.TheVariants.{Reset, ResetAcknowledge}
 use Rattle.directory.specs.Lookup.{at, stored}
 use Rattle.station.specs.declared.receiving.Delivery.{Delivery}
 use Rattle.station.specs.declared.receiving.Delivery.TheVariants as delivery
@@ -46,39 +46,21 @@ answers_to s f = answering s.sgsn.node f.stamp (answer_to (noted s f.message) f.
 abbrev pub records_after : State → Message → List Record
 records_after s (Reset e) = map doubtful s.records
 records_after s (ResetAcknowledge e) = s.records
-records_after s (Paging i t c) = changed s (Paging i t c) (noted s (Paging i t c))
-records_after s (PagingFailure i c) = changed s (PagingFailure i c) (noted s (PagingFailure i c))
-records_after s (MobileStatus i c) = changed s (MobileStatus i c) (noted s (MobileStatus i c))
-records_after s (LuRequest i u o a c) = changed s (LuRequest i u o a c) (noted s (LuRequest i u o a c))
-records_after s (LuAccept i a) = changed s (LuAccept i a) (noted s (LuAccept i a))
-records_after s (LuReject i c) = changed s (LuReject i c) (noted s (LuReject i c))
-records_after s (GprsDetachIndication i t) = changed s (GprsDetachIndication i t) (noted s (GprsDetachIndication i t))
-records_after s (GprsDetachAcknowledge i t) = changed s (GprsDetachAcknowledge i t) (noted s (GprsDetachAcknowledge i t))
-records_after s (ImsiDetachIndication i t) = changed s (ImsiDetachIndication i t) (noted s (ImsiDetachIndication i t))
-records_after s (ImsiDetachAcknowledge i t) = changed s (ImsiDetachAcknowledge i t) (noted s (ImsiDetachAcknowledge i t))
+records_after s k = changed s k (noted s k)
 
 -- what is kept of the SGSN, after a message with this stamp that answers that one
 abbrev pub row_after : Row → ℕ → ℕ → Message → Row
 row_after r n a (Reset e) = reset_taken r n
 row_after r n a (ResetAcknowledge e) = acknowledged r a
-row_after r n a (Paging i t c) = r
-row_after r n a (PagingFailure i c) = r
-row_after r n a (MobileStatus i c) = r
-row_after r n a (LuRequest i u o w c) = r
-row_after r n a (LuAccept i w) = r
-row_after r n a (LuReject i c) = r
-row_after r n a (GprsDetachIndication i t) = r
-row_after r n a (GprsDetachAcknowledge i t) = r
-row_after r n a (ImsiDetachIndication i t) = r
-row_after r n a (ImsiDetachAcknowledge i t) = r
+row_after r n a k = r
 
 -- so much changes but for the answer
 abbrev pub with_moved : State → Frame → State
-with_moved s f = record { own = s.own; last = s.last; sgsn = s.sgsn; row = row_after s.row f.stamp f.answers f.message; records = records_after s f.message }
+with_moved s f = record s { row = row_after s.row f.stamp f.answers f.message; records = records_after s f.message }
 
 -- with so many stamps more taken
 abbrev pub with_last : State → ℕ → State
-with_last s n = record { own = s.own; last = s.last + n; sgsn = s.sgsn; row = s.row; records = s.records }
+with_last s n = record s { last = s.last + n }
 
 -- after a frame from its SGSN that names no other
 abbrev pub taken : State → Frame → State

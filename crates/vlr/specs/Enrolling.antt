@@ -1,5 +1,5 @@
 -- Enrolling: the home cause of a held mobile changes, or a mobile gets a record where a place is free.
-use Rattle.std.specs.Prelude.{ℕ, not, Some, None, Option}
+use Rattle.std.specs.Prelude.{ℕ, not, [], Some, None, Option, Ok, Result}
 use Rattle.imsi.specs.declared.Imsi.{Imsi}
 use Rattle.imsi.specs.Spelling.{lawful_imsi}
 use Rattle.directory.specs.Lookup.{at, fits, stored}
@@ -9,18 +9,11 @@ use Rattle.station.specs.Sends.{is_worn}
 use Rattle.vlr.specs.declared.record.Record.{Record}
 use Rattle.vlr.specs.Records.{new_record, with_home_cause}
 use Rattle.vlr.specs.State.{State, whose, with_records}
-use Rattle.station.specs.Calls.{unless}
+use Rattle.station.specs.Calls.{Plan, plan, ask}
 
 -- this many places
 abbrev pub places : ℕ
 places = 1024
-
--- the questions in their order
-abbrev pub enrol_denial : State → Imsi → Option Denial
-enrol_denial s i =
-    unless (not (is_worn s.last)) denial.Worn
-    (unless (lawful_imsi i.digits i.value) denial.UnlawfulImsi
-    (unless (fits whose places s.records i) denial.NoPlace None))
 
 -- the record of a mobile whose home says this now, where the one before was this, or none
 abbrev pub enrolled : Imsi → ℕ → Option Record → Record
@@ -30,3 +23,11 @@ enrolled i c (Some r) = with_home_cause r c
 -- that record stands in its place
 abbrev pub with_enrolled : State → Imsi → ℕ → State
 with_enrolled s i c = with_records s (stored whose (enrolled i c (at whose s.records i)) s.records)
+
+-- the questions in their order
+abbrev pub enrolling : State → Imsi → ℕ → Result (Plan Unit State) Denial
+enrolling s i c =
+    ask (not (is_worn s.last)) denial.Worn
+    (ask (lawful_imsi i.digits i.value) denial.UnlawfulImsi
+    (ask (fits whose places s.records i) denial.NoPlace
+    (Ok (plan (with_enrolled s i c) []))))

@@ -7,17 +7,18 @@ use Rattle.elements.specs.declared.node.SgsnNumber.{SgsnNumber}
 use Rattle.imsi.specs.declared.Imsi.{Imsi}
 use Rattle.frames.specs.declared.frame.Frame.{Frame}
 use Rattle.messages.specs.declared.message.Message.{Message}
-use Rattle.messages.specs.declared.message.Message.TheVariants.{Paging, PagingFailure, MobileStatus, LuRequest, LuAccept, LuReject, Reset, ResetAcknowledge, GprsDetachIndication, GprsDetachAcknowledge, ImsiDetachIndication, ImsiDetachAcknowledge}
+use Rattle.messages.specs.declared.message.Message.TheVariants.{Reset}
 use Rattle.directory.specs.Lookup.{at}
 use Rattle.directory.specs.Order.{same}
 use Rattle.station.specs.declared.denial.Denial.{Denial}
-use Rattle.station.specs.Receiving.{is_from, Received}
+use Rattle.station.specs.Calls.{Plan}
+use Rattle.station.specs.Receiving.{is_from, Received, mobile_in}
 use Rattle.station.specs.Sends.{is_worn}
 use Rattle.vlr.specs.declared.record.Record.{Record}
 use Rattle.vlr.specs.Records.{doubtful}
 use Rattle.vlr.specs.Moves.{moved}
-use Rattle.vlr.specs.Enrolling.{enrolled, enrol_denial}
-use Rattle.vlr.specs.Calls.{worn_denial}
+use Rattle.vlr.specs.Enrolling.{enrolled, enrolling}
+use Rattle.vlr.specs.Recovering.{losing}
 use Rattle.vlr.specs.State.{State, whose}
 
 -- the record of a mobile, if it is held
@@ -29,36 +30,31 @@ abbrev pub ByMobile : State → State → (Imsi → Option Record → Option Rec
 ByMobile s t f = (m : Imsi) → record_at t m ≡ f m (record_at s m)
 
 -- a call that is denied leaves a record as it was
-abbrev pub unless_denied : Option Denial → Option Record → Option Record → Option Record
-unless_denied (Some d) before after = before
-unless_denied None before after = after
+abbrev pub unless_denied : Result (Plan Unit State) Denial → Option Record → Option Record → Option Record
+unless_denied (Err d) before after = before
+unless_denied (Ok p) before after = after
 
 -- a loss makes every record doubtful
 abbrev pub by_loss : State → Imsi → Option Record → Option Record
-by_loss s m r = unless_denied (worn_denial s) r (option_map doubtful r)
+by_loss s m r = unless_denied (losing s) r (option_map doubtful r)
 
 -- an enrolment changes its mobile's record, and no other
 abbrev pub by_enrolment : State → Imsi → ℕ → Imsi → Option Record → Option Record
-by_enrolment s i c m r = unless_denied (enrol_denial s i) r (cond (same m i) (Some (enrolled i c r)) r)
+by_enrolment s i c m r = unless_denied (enrolling s i c) r (cond (same m i) (Some (enrolled i c r)) r)
 
 -- a message moves the record of the mobile that it is about, and no other
 abbrev pub if_about : SgsnNumber → Message → Imsi → Imsi → Option Record → Option Record
 if_about n a i m r = cond (same m i) (option_map (moved n a) r) r
 
+-- and where it is about none, it moves none
+abbrev pub of_mobile : SgsnNumber → Message → Option Imsi → Imsi → Option Record → Option Record
+of_mobile n k None m r = r
+of_mobile n k (Some i) m r = if_about n k i m r
+
 -- but a RESET makes every record doubtful
 abbrev pub by_message : SgsnNumber → Message → Imsi → Option Record → Option Record
 by_message n (Reset e) m r = option_map doubtful r
-by_message n (ResetAcknowledge e) m r = r
-by_message n (Paging i t c) m r = if_about n (Paging i t c) i m r
-by_message n (PagingFailure i c) m r = if_about n (PagingFailure i c) i m r
-by_message n (MobileStatus i c) m r = if_about n (MobileStatus i c) i m r
-by_message n (LuRequest i u o a c) m r = if_about n (LuRequest i u o a c) i m r
-by_message n (LuAccept i a) m r = if_about n (LuAccept i a) i m r
-by_message n (LuReject i c) m r = if_about n (LuReject i c) i m r
-by_message n (GprsDetachIndication i t) m r = if_about n (GprsDetachIndication i t) i m r
-by_message n (GprsDetachAcknowledge i t) m r = if_about n (GprsDetachAcknowledge i t) i m r
-by_message n (ImsiDetachIndication i t) m r = if_about n (ImsiDetachIndication i t) i m r
-by_message n (ImsiDetachAcknowledge i t) m r = if_about n (ImsiDetachAcknowledge i t) i m r
+by_message n k m r = of_mobile n k (mobile_in k) m r
 
 -- what was taken, if it is a frame of the SGSN's
 abbrev pub by_frame : State → Option (Result Frame Fault) → Imsi → Option Record → Option Record

@@ -1,4 +1,3 @@
-pub mod Calls
 pub mod Delivering
 pub mod Enrolling
 pub mod Laws

@@ -6,7 +6,7 @@ use Rattle.elements.specs.declared.code.ImsiDetachType.{ImsiDetachType}
 use Rattle.elements.specs.declared.code.ImsiDetachType.TheVariants.{Unacknowledged, Acknowledged}
 use Rattle.elements.specs.declared.node.SgsnNumber.{SgsnNumber}
 use Rattle.messages.specs.declared.message.Message.{Message}
-use Rattle.messages.specs.declared.message.Message.TheVariants.{Paging, PagingFailure, MobileStatus, LuRequest, LuAccept, LuReject, Reset, ResetAcknowledge, GprsDetachIndication, GprsDetachAcknowledge, ImsiDetachIndication, ImsiDetachAcknowledge}
+use Rattle.messages.specs.declared.message.Message.TheVariants.{PagingFailure, MobileStatus, LuRequest, LuAccept, LuReject, GprsDetachIndication, GprsDetachAcknowledge, ImsiDetachIndication, ImsiDetachAcknowledge}
 use Rattle.vlr.specs.declared.record.Record.{Record}
 use Rattle.vlr.specs.Records.{confirmed, unmarked, imsi_detached}
 
@@ -17,13 +17,7 @@ moved n (GprsDetachIndication i t) r = unmarked r
 moved n (PagingFailure i c) r = unmarked r
 moved n (MobileStatus i c) r = unmarked r
 moved n (ImsiDetachIndication i t) r = imsi_detached r
-moved n (Paging i t c) r = r
-moved n (LuAccept i a) r = r
-moved n (LuReject i c) r = r
-moved n (Reset e) r = r
-moved n (ResetAcknowledge e) r = r
-moved n (GprsDetachAcknowledge i t) r = r
-moved n (ImsiDetachAcknowledge i t) r = r
+moved n k r = r
 
 -- why a location update is rejected: an unknown mobile, or the cause that its home gave; 0 where it is not
 abbrev pub cause_for : Option Record → ℕ
@@ -43,12 +37,4 @@ abbrev pub answer_to : Option Record → Message → Option Message
 answer_to r (LuRequest i u o a c) = Some (update_answer i a (cause_for r))
 answer_to r (GprsDetachIndication i t) = Some (GprsDetachAcknowledge i t)
 answer_to r (ImsiDetachIndication i t) = detach_answer i t
-answer_to r (Paging i t c) = None
-answer_to r (PagingFailure i c) = None
-answer_to r (MobileStatus i c) = None
-answer_to r (LuAccept i a) = None
-answer_to r (LuReject i c) = None
-answer_to r (Reset e) = None
-answer_to r (ResetAcknowledge e) = None
-answer_to r (GprsDetachAcknowledge i t) = None
-answer_to r (ImsiDetachAcknowledge i t) = None
+answer_to r k = None

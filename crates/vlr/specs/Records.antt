@@ -12,20 +12,20 @@ new_record i c = record { imsi = i; home_cause = c; attached = false; mark = mar
 
 -- enrolled again
 abbrev pub with_home_cause : Record → ℕ → Record
-with_home_cause r c = record { imsi = r.imsi; home_cause = c; attached = r.attached; mark = r.mark }
+with_home_cause r c = record r { home_cause = c }
 
 -- attached here, and served by this SGSN
 abbrev pub confirmed : Record → SgsnNumber → Record
-confirmed r n = record { imsi = r.imsi; home_cause = r.home_cause; attached = true; mark = mark.Confirmed n }
+confirmed r n = record r { attached = true; mark = mark.Confirmed n }
 
 -- served by no SGSN any more
 abbrev pub unmarked : Record → Record
-unmarked r = record { imsi = r.imsi; home_cause = r.home_cause; attached = r.attached; mark = mark.None }
+unmarked r = record r { mark = mark.None }
 
 -- detached here, too
 abbrev pub imsi_detached : Record → Record
-imsi_detached r = record { imsi = r.imsi; home_cause = r.home_cause; attached = false; mark = mark.None }
+imsi_detached r = record r { attached = false; mark = mark.None }
 
 -- sure of its SGSN no more
 abbrev pub doubtful : Record → Record
-doubtful r = record { imsi = r.imsi; home_cause = r.home_cause; attached = r.attached; mark = doubted r.mark }
+doubtful r = record r { mark = doubted r.mark }

@@ -1,9 +1,12 @@
 -- What a VLR is: its number and last stamp, its SGSN, what it keeps of that, and its records in order.
-use Rattle.std.specs.Prelude.{ℕ, List, take}
+use Rattle.std.specs.Prelude.{ℕ, List, take, Result}
 use Rattle.elements.specs.declared.node.NodeNumber.{NodeNumber}
 use Rattle.elements.specs.declared.node.SgsnNumber.{SgsnNumber}
 use Rattle.imsi.specs.declared.Imsi.{Imsi}
+use Rattle.station.specs.declared.denial.Denial.{Denial}
 use Rattle.station.specs.declared.row.Row.{Row}
+use Rattle.station.specs.Calls as station
+use Rattle.station.specs.Calls.{Plan}
 use Rattle.vlr.specs.declared.record.Record.{Record}
 use Rattle.vlr.specs.declared.vlr.Vlr.{Vlr}
 
@@ -29,4 +32,12 @@ whose r = r.imsi
 
 -- with these records
 abbrev pub with_records : State → List Record → State
-with_records s rs = record { own = s.own; last = s.last; sgsn = s.sgsn; row = s.row; records = rs }
+with_records s rs = record s { records = rs }
+
+-- a VLR does as this call plans, which sends nothing
+abbrev pub Decides : {T : Type 0} → (State → Result (Plan T State) Denial) → Result T Denial → Vlr → Vlr → Type 0
+Decides call r s t = station.Decides (call (state_of s)) r (state_of s) (state_of t)
+
+-- the same of a call that can send
+abbrev pub Does : {T C : Type 0} → (C → List ℕ → C → Type 0) → (State → Result (Plan T State) Denial) → Result T Denial → Vlr → C → Vlr → C → Type 0
+Does puts call r s c t d = station.Does own_of last_of puts (call (state_of s)) r (state_of s) c (state_of t) d

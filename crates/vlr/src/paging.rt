@@ -1,7 +1,6 @@
 // Paging a mobile by way of its SGSN.
-ghost use Rattle.vlr.specs.State.{own_of, last_of, state_of};
-ghost use Rattle.station.specs.Calls.{Called};
-ghost use Rattle.vlr.specs.Paging.{page_denial, paged, paging};
+ghost use Rattle.vlr.specs.State.{Does};
+ghost use Rattle.vlr.specs.Paging.{paging};
 
 use crate::vlr::Vlr;
 use carrier::carrier::Carrier;
@@ -25,7 +24,7 @@ impl Vlr {
         tmsi: Option<u32>,
         channel: Option<u8>,
     ) -> Result<(), Denial>
-        ensures { Called own_of last_of C.Carrier.puts (page_denial (state_of self.old) imsi channel) tt (state_of self.old) (paged (state_of self.old)) (paging (state_of self.old) imsi tmsi channel) result carrier.old (state_of self.new) carrier.new }
+        ensures { Does C.Carrier.puts (λ s. paging s imsi tmsi channel) result self.old carrier.old self.new carrier.new }
     {
         if self.sender.is_worn() {
             return Err(Denial::Worn);

@@ -1,8 +1,6 @@
 // Losing all marks, and time.
-ghost use Rattle.vlr.specs.State.{own_of, last_of, state_of};
-ghost use Rattle.station.specs.Calls.{Called};
-ghost use Rattle.vlr.specs.Calls.{worn_denial};
-ghost use Rattle.vlr.specs.Recovering.{lost, resets, ticked, tick_sends};
+ghost use Rattle.vlr.specs.State.{state_of, Does};
+ghost use Rattle.vlr.specs.Recovering.{losing, ticking};
 ghost use Rattle.vlr.specs.Laws.{ByMobile, by_loss};
 
 use crate::record::Doubt;
@@ -17,7 +15,7 @@ use station::sending::Outgoing;
 impl Vlr {
     // The register lost its marks: none is sure any more, and the SGSN is told.
     pub fn lose<C: InOrder>(&mut self, carrier: &mut C) -> Result<(), Denial>
-        ensures called { Called own_of last_of C.Carrier.puts (worn_denial (state_of self.old)) tt (state_of self.old) (lost (state_of self.old)) (resets (state_of self.old)) result carrier.old (state_of self.new) carrier.new }
+        ensures called { Does C.Carrier.puts losing result self.old carrier.old self.new carrier.new }
         ensures by_mobile { ByMobile (state_of self.old) (state_of self.new) (by_loss (state_of self.old)) }
     {
         if self.sender.is_worn() {
@@ -38,7 +36,7 @@ impl Vlr {
 
     // One tick: an acknowledgement that is due goes before a RESET's repeat.
     pub fn tick<C: InOrder>(&mut self, carrier: &mut C) -> Result<(), Denial>
-        ensures { Called own_of last_of C.Carrier.puts (worn_denial (state_of self.old)) tt (state_of self.old) (ticked (state_of self.old)) (tick_sends (state_of self.old)) result carrier.old (state_of self.new) carrier.new }
+        ensures { Does C.Carrier.puts ticking result self.old carrier.old self.new carrier.new }
     {
         if self.sender.is_worn() {
             return Err(Denial::Worn);

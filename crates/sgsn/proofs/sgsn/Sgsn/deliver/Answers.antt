@@ -32,4 +32,4 @@ returns g c =
     let fresh : is_worn s.sender.last ≡ false = search rules in
     let received = read_as g.C.Carrier.takes s.sender.own c.take_frame.result c.in-Some.received f _ _ c.in-Some.is c.in_ok-frame.was c.take_frame.ensures.received in
     let from = sender f i _ _ (sent_by f s.count i s.peers _ place) in
-    from_peer g.C.Carrier.takes g.C.Carrier.puts (state_of s) _ _ f _ c.take.result _ _ fresh received from c.take.ensures.state c.take.ensures.sent c.take.ensures.answer
+    from_peer g.C.Carrier.takes g.C.Carrier.puts (state_of s) _ _ f _ c.take.result _ _ fresh received from c.take.ensures.1 c.take.ensures.2 c.take.ensures.0

@@ -1,6 +1,6 @@
 use Rattle.std.proofs.Common.{◌+◌, sym, ap, ◌∙◌}
 use Rattle.std.specs.List.{list_all}
-use Rattle.station.specs.Sends.{may_go}
+use Rattle.station.specs.Sends.{may_go, outgoing_in}
 use Rattle.context.specs.Contexts.{whose}
 use Rattle.sgsn.specs.Fitting.{fits_in}
 use Rattle.sgsn.specs.State.{state_of, vlrs_of}
@@ -12,7 +12,7 @@ use Rattle.sgsn.proofs.sgsn.Sgsn.open_detach.Goals as goal
 pub keep_and_send-requires-clause-held : goal.keep_and_send-requires-clause-held
 keep_and_send-requires-clause-held g c =
     let r = c.in-Some-record_of.context in
-    held_as (state_of c.args.self.now) c.args.imsi r c.detached-after.result (sym c.record_of.ensures ∙ c.in-Some-record_of.is) (ap whose c.detached-after.ensures ∙ detached_whose c.in-Some.kind (c.args.self.now.sender.last + 1) r)
+    held_as (state_of c.args.self.now) c.args.imsi r c.detached-outgoing.result.0 (sym c.record_of.ensures ∙ c.in-Some-record_of.is) (ap (λ m. whose m.0) c.detached-outgoing.ensures ∙ detached_whose c.in-Some.kind (c.args.self.now.sender.last + 1) r)
 
 pub keep_and_send-requires-clause-fits : goal.keep_and_send-requires-clause-fits
 keep_and_send-requires-clause-fits g c =
@@ -20,7 +20,7 @@ keep_and_send-requires-clause-fits g c =
     let vs = vlrs_of s in
     let r = c.in-Some-record_of.context in
     let fit = fits_at vs s.records c.args.imsi r c.args.self.now.fit (sym c.record_of.ensures ∙ c.in-Some-record_of.is) in
-    ap (fits_in vs) c.detached-after.ensures ∙ fits_detached vs c.in-Some.kind (s.last + 1) r fit
+    ap (λ m. fits_in vs m.0) c.detached-outgoing.ensures ∙ fits_detached vs c.in-Some.kind (s.last + 1) r fit
 
 pub keep_and_send-requires-clause-may : goal.keep_and_send-requires-clause-may
 keep_and_send-requires-clause-may g c =
@@ -29,4 +29,4 @@ keep_and_send-requires-clause-may g c =
     let r = c.in-Some-record_of.context in
     let fit = fits_at vs s.records c.args.imsi r c.args.self.now.fit (sym c.record_of.ensures ∙ c.in-Some-record_of.is) in
     let reach = reach_peers s.own s.peers c.args.self.now.nodes in
-    ap (list_all (may_go s.own)) c.detach_sends.ensures ∙ may_detach s.own vs c.in-Some.kind r reach fit
+    ap (λ m. list_all (may_go s.own) (outgoing_in m.1)) c.detached-outgoing.ensures ∙ may_detach s.own vs c.in-Some.kind (s.last + 1) r reach fit

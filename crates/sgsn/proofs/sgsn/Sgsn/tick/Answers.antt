@@ -1,10 +1,10 @@
-use Rattle.std.proofs.Common.{◌≡◌, ◌-◌, ◌≤◌, ◌++◌, false, not, map, take, drop, None, Ok, refl, sym, ap, ◌∙◌, subst, arith, rules}
+use Rattle.std.proofs.Common.{◌≡◌, ◌-◌, ◌≤◌, ◌++◌, false, not, map, take, drop, Ok, refl, sym, ap, ◌∙◌, subst, arith, rules}
 use native.Mathlib.Nat.{sub-zero}
 use Rattle.std.proofs.lemmas.List.{length-append, length-take-le, length-drop}
 use Rattle.std.specs.List.{list_all}
 use Rattle.std.proofs.lemmas.Bool.Decides.{nat_tests}
 use Rattle.station.specs.declared.denial.Denial.TheVariants as denial
-use Rattle.station.specs.Calls.{Called, unless}
+use Rattle.station.specs.Calls.{plan, ask, Does}
 use Rattle.station.specs.Sends.{may_go, is_worn}
 use Rattle.context.specs.Contexts.{whose}
 use Rattle.sgsn.specs.Fitting.{fits_in}
@@ -83,4 +83,4 @@ returns g c =
     let records = records_left s c.tick_all.ensures.contexts c.tick_rows.ensures.contexts in
     let is : after ≡ ticked (state_of s) = λ k. record { own = own k; last = last k; peers = peers k; records = records.1 k } in
     let sent = sent_left g.C.Carrier.puts s c.args.carrier.now c.tick_all.new.carrier c.tick_rows.new.carrier c.tick_all.ensures.own c.tick_all.ensures.last c.tick_all.ensures.sent c.tick_rows.ensures.sent in
-    subst (λ b. Called own_of last_of g.C.Carrier.puts (unless (not b) denial.Worn None) tt (state_of s) (ticked (state_of s)) (tick_sends (state_of s)) (Ok tt) c.args.carrier.now after c.tick_rows.new.carrier) (sym fresh) (refl, is, sent)
+    subst (λ b. Does own_of last_of g.C.Carrier.puts (ask (not b) denial.Worn (Ok (plan (ticked (state_of s)) (tick_sends (state_of s))))) (Ok tt) (state_of s) c.args.carrier.now after c.tick_rows.new.carrier) (sym fresh) (refl, is, sent)

@@ -1,19 +1,19 @@
 use Rattle.std.proofs.Common.{refl}
 use Rattle.sgsn.specs.Replies.{reply_to}
-use Rattle.sgsn.specs.Detaching.{detach_denial, detached, detach_sends}
+use Rattle.sgsn.specs.Detaching.{detached}
 use Rattle.sgsn.specs.State.{state_of}
 use Rattle.law.specs.declared.call.Call.TheVariants as call
 use Rattle.law.proofs.Carried.{Carries}
 use Rattle.law.proofs.Lawful.{law_step}
 use Rattle.site.specs.ByHand.{asked}
 use Rattle.site.specs.Sites.{states_of, view_of}
-use Rattle.site.proofs.ByHand.{as_called}
+use Rattle.site.proofs.ByHand.{as_done}
 use Rattle.site.proofs.site.Site.detach.Goals as goal
 
 pub returns-clause-step : goal.returns-clause-step
 returns-clause-step g c =
     let s = state_of c.args.self.now.sgsn in
-    as_called g.C.Carrier.takes g.C.Carrier.puts (detach_denial s c.args.imsi c.args.kind) (reply_to s.own c.args.imsi) (detached s c.args.imsi c.args.kind) (detach_sends s c.args.imsi c.args.kind) c.detach.result (view_of c.args.self.now) (record { sgsn = state_of c.detach.new.self; vlrs = states_of c.args.self.now.vlrs.items; carrier = c.detach.new.carrier }) c.detach.ensures refl
+    as_done g.C.Carrier.takes g.C.Carrier.puts (reply_to s.own c.args.imsi) (detached s c.args.imsi c.args.kind) c.detach.result (view_of c.args.self.now) (record { sgsn = state_of c.detach.new.self; vlrs = states_of c.args.self.now.vlrs.items; carrier = c.detach.new.carrier }) c.detach.ensures refl
 
 pub returns-clause-law : goal.returns-clause-law
 returns-clause-law g c es came =
@@ -25,5 +25,5 @@ returns-clause-law g c es came =
       moves = g.met.C.InOrder.moves;
     } in
     let s = state_of c.args.self.now.sgsn in
-    let step = as_called g.C.Carrier.takes g.C.Carrier.puts (detach_denial s c.args.imsi c.args.kind) (reply_to s.own c.args.imsi) (detached s c.args.imsi c.args.kind) (detach_sends s c.args.imsi c.args.kind) c.detach.result (view_of c.args.self.now) (record { sgsn = state_of c.detach.new.self; vlrs = states_of c.args.self.now.vlrs.items; carrier = c.detach.new.carrier }) c.detach.ensures refl in
+    let step = as_done g.C.Carrier.takes g.C.Carrier.puts (reply_to s.own c.args.imsi) (detached s c.args.imsi c.args.kind) c.detach.result (view_of c.args.self.now) (record { sgsn = state_of c.detach.new.self; vlrs = states_of c.args.self.now.vlrs.items; carrier = c.detach.new.carrier }) c.detach.ensures refl in
     law_step g.C.Carrier.waiting g.C.InOrder.last_given g.C.Carrier.takes g.C.Carrier.puts carries (call.Detach c.args.imsi c.args.kind) (asked c.detach.result) es (view_of c.args.self.now) (record { sgsn = state_of c.detach.new.self; vlrs = states_of c.args.self.now.vlrs.items; carrier = c.detach.new.carrier }) came step

@@ -4,8 +4,8 @@ use Rattle.directory.specs.Lookup.{at, Held, Stored}
 use Rattle.station.specs.Sends.{is_worn}
 use Rattle.station.specs.declared.denial.Denial.TheVariants as denial
 use Rattle.vlr.specs.State.{state_of, whose, with_records}
-use Rattle.station.specs.Calls.{Decided}
-use Rattle.vlr.specs.Enrolling.{enrolled, enrol_denial, with_enrolled}
+use Rattle.station.specs.Calls.{Decides}
+use Rattle.vlr.specs.Enrolling.{enrolled, enrolling}
 use Rattle.vlr.proofs.ByMobile.{enrolment}
 use Rattle.vlr.proofs.Enrolls.{no_place, has_place, placed_record}
 use Rattle.vlr.proofs.vlr.Vlr.enrol.Goals as goal
@@ -22,8 +22,8 @@ returns-in-None c =
     let st = subst (λ o. Stored whose v.held (enrolled i cause (at whose (take v.held v.places) i)) v.places c.store.new.places o) c.in-None.is put in
     let fresh : is_worn s.last ≡ false = search rules in
     let lawful : lawful_imsi i.digits i.value ≡ true = search rules in
-    let denied : Decided (enrol_denial s i) tt s (with_enrolled s i cause) (Err denial.NoPlace) (with_records s (take v.held c.store.new.places)) =
-    subst (λ o. Decided o tt s (with_enrolled s i cause) (Err denial.NoPlace) (with_records s (take v.held c.store.new.places)))
+    let denied : Decides (enrolling s i cause) (Err denial.NoPlace) s (with_records s (take v.held c.store.new.places)) =
+    subst (λ o. Decides o (Err denial.NoPlace) s (with_records s (take v.held c.store.new.places)))
     (sym (no_place s i cause v.held v.places c.store.new.places v.all refl fresh lawful st))
     (refl, ap (λ ps. with_records s (take v.held ps)) st.1) in
     record { decided = denied; by_mobile = enrolment s _ i cause _ denied }
@@ -40,8 +40,8 @@ returns-in-Some c =
     let st = subst (λ o. Stored whose v.held (enrolled i cause (at whose (take v.held v.places) i)) v.places c.store.new.places o) c.in-Some.is put in
     let fresh : is_worn s.last ≡ false = search rules in
     let lawful : lawful_imsi i.digits i.value ≡ true = search rules in
-    let done : Decided (enrol_denial s i) tt s (with_enrolled s i cause) (Ok tt) (with_records s (take c.in-Some.held c.store.new.places)) =
-    subst (λ o. Decided o tt s (with_enrolled s i cause) (Ok tt) (with_records s (take c.in-Some.held c.store.new.places)))
+    let done : Decides (enrolling s i cause) (Ok tt) s (with_records s (take c.in-Some.held c.store.new.places)) =
+    subst (λ o. Decides o (Ok tt) s (with_records s (take c.in-Some.held c.store.new.places)))
     (sym (has_place s i cause v.held c.in-Some.held v.places c.store.new.places v.all refl fresh lawful st))
     (refl, placed_record s i cause v.held c.in-Some.held v.places c.store.new.places refl st) in
     record { decided = done; by_mobile = enrolment s _ i cause _ done }
