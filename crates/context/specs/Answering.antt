@@ -1,5 +1,5 @@
 -- What a VLR's answer makes of the open request or detach of its mobile.
-use Rattle.std.specs.Prelude.{ℕ, Bool, true, false, cond, ◌&&◌, ◌==◌, Some, None, Option, nat_lt}
+use Rattle.std.specs.Prelude.{ℕ, Bool, true, false, if◌then◌else◌, ◌&&◌, ◌==◌, Some, None, Option, nat_lt}
 use Rattle.elements.specs.declared.area.LocationArea.{LocationArea}
 use Rattle.elements.specs.declared.code.RejectCause.{RejectCause}
 use Rattle.elements.specs.declared.node.VlrNumber.{VlrNumber}
@@ -7,6 +7,7 @@ use Rattle.elements.specs.Nodes.{same_node}
 use Rattle.messages.specs.declared.message.Message.{Message}
 use Rattle.messages.specs.declared.message.Message.TheVariants.{LuAccept, LuReject, GprsDetachAcknowledge, ImsiDetachAcknowledge}
 use Rattle.station.specs.declared.mark.Mark.TheVariants as mark
+use Rattle.context.specs.Contexts.{with_mark}
 use Rattle.context.specs.declared.context.Context.{Context}
 use Rattle.context.specs.declared.errand.Errand.{Errand}
 use Rattle.context.specs.declared.errand.Errand.TheVariants as errand
@@ -23,35 +24,33 @@ is_above (Some m) n = nat_lt m n
 
 -- the VLR serves the mobile; it is sure unless a RESET went there since
 abbrev pub accepted : Open → LocationArea → Option ℕ → Context → Context
-accepted o a reset r = record r { mark = cond (is_above reset o.stamp) (mark.Confirmed o.vlr) (mark.Unsure o.vlr); area = Some a; errand = errand.Ended verdict.Done }
+accepted o a reset r =
+    let serving = if is_above reset o.stamp then mark.Confirmed o.vlr else mark.Unsure o.vlr in
+    record (with_mark serving r) { area = Some a; errand = errand.Ended verdict.Done }
 
 -- no VLR serves the mobile any more, and so it ended
 abbrev pub let_go : Bool → Verdict → Context → Context
-let_go stays v r = record r { attached = stays; mark = mark.None; errand = errand.Ended v }
+let_go stays v r = record (with_mark mark.None r) { attached = stays; errand = errand.Ended v }
 
 -- only a location update is accepted
 abbrev pub on_accept : Open → Awaited → Option ℕ → Context → Context
 on_accept o (Update a) reset r = accepted o a reset r
-on_accept o (GprsDetach t n) reset r = r
-on_accept o (ImsiDetach s) reset r = r
+on_accept o w reset r = r
 
 -- only a location update is rejected: the mobile keeps packet service or lacks it, as before
 abbrev pub on_reject : RejectCause → Awaited → Context → Context
 on_reject c (Update a) r = let_go r.attached (verdict.Rejected c) r
-on_reject c (GprsDetach t n) r = r
-on_reject c (ImsiDetach s) r = r
+on_reject c w r = r
 
 -- the end of packet service is acknowledged
 abbrev pub on_gprs_acknowledge : Awaited → Context → Context
-on_gprs_acknowledge (Update a) r = r
 on_gprs_acknowledge (GprsDetach t n) r = let_go false verdict.Done r
-on_gprs_acknowledge (ImsiDetach s) r = r
+on_gprs_acknowledge w r = r
 
 -- packet service stays where the detach left it, or not
 abbrev pub on_imsi_acknowledge : Awaited → Context → Context
-on_imsi_acknowledge (Update a) r = r
-on_imsi_acknowledge (GprsDetach t n) r = r
 on_imsi_acknowledge (ImsiDetach s) r = let_go (r.attached && s) verdict.Done r
+on_imsi_acknowledge w r = r
 
 -- the record after a message that answers its open request or detach, where this was the last RESET that went there
 abbrev pub matched : Open → Option ℕ → Message → Context → Context
@@ -67,9 +66,8 @@ is_answer o v n = same_node o.vlr.node v.node && o.stamp == n
 
 -- only what is open can be answered
 abbrev pub answered_errand : Errand → VlrNumber → ℕ → Option ℕ → Message → Context → Context
-answered_errand errand.Idle v n reset m r = r
-answered_errand (errand.Open o) v n reset m r = cond (is_answer o v n) (matched o reset m r) r
-answered_errand (errand.Ended w) v n reset m r = r
+answered_errand (errand.Open o) v n reset m r = if is_answer o v n then matched o reset m r else r
+answered_errand e v n reset m r = r
 
 -- the record after a message from this VLR that answers this stamp
 abbrev pub answered : VlrNumber → ℕ → Option ℕ → Message → Context → Context

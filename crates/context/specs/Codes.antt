@@ -1,5 +1,5 @@
 -- The codes of classes and kinds.
-use Rattle.std.specs.Prelude.{ℕ, Bool, true, false, cond, Some, None, Option, ◌==◌}
+use Rattle.std.specs.Prelude.{ℕ, Bool, true, false, if◌then◌else◌, Some, None, Option, ◌==◌}
 use Rattle.elements.specs.declared.code.Class.{Class}
 use Rattle.elements.specs.declared.code.Class.TheVariants as voice
 use Rattle.elements.specs.declared.code.UpdateType.{UpdateType}
@@ -13,7 +13,7 @@ use Rattle.context.specs.declared.kind.DetachKind.TheVariants as detach
 
 -- the one of three cases with the code 1, 2 or 3
 abbrev pub third_of : {X : Type 0} → X → X → X → ℕ → Option X
-third_of a b c n = cond (n == 1) (Some a) (cond (n == 2) (Some b) (cond (n == 3) (Some c) None))
+third_of a b c n = if n == 1 then Some a else if n == 2 then Some b else if n == 3 then Some c else None
 
 -- the class with a code
 abbrev pub class_in : ℕ → Option ServiceClass
@@ -25,7 +25,13 @@ request_kind_in = third_of kind.CombinedAttach kind.ImsiAttach kind.AreaChange
 
 -- the kind of detach with a code
 abbrev pub detach_kind_in : ℕ → Option DetachKind
-detach_kind_in n = cond (n == 1) (Some detach.ByMobile) (cond (n == 2) (Some detach.ByNetwork) (cond (n == 3) (Some detach.Imsi) (cond (n == 4) (Some detach.ImsiAndGprs) (cond (n == 5) (Some detach.SwitchedOff) None))))
+detach_kind_in n =
+    if n == 1 then Some detach.ByMobile
+    else if n == 2 then Some detach.ByNetwork
+    else if n == 3 then Some detach.Imsi
+    else if n == 4 then Some detach.ImsiAndGprs
+    else if n == 5 then Some detach.SwitchedOff
+    else None
 
 -- the class with which a mobile has voice service
 abbrev pub voice_class : ServiceClass → Option Class
@@ -36,11 +42,9 @@ voice_class class.C = None
 -- the mobile gets packet service by it, too
 abbrev pub attaches : RequestKind → Bool
 attaches kind.CombinedAttach = true
-attaches kind.ImsiAttach = false
-attaches kind.AreaChange = false
+attaches k = false
 
 -- how a location update names it
 abbrev pub update_type : RequestKind → UpdateType
-update_type kind.CombinedAttach = update.ImsiAttach
-update_type kind.ImsiAttach = update.ImsiAttach
 update_type kind.AreaChange = update.Normal
+update_type k = update.ImsiAttach

@@ -1,11 +1,11 @@
 -- What an SGSN keeps of a mobile, and the changes of that which no answer makes.
-use Rattle.std.specs.Prelude.{Bool, true, false, cond, is_some, None}
+use Rattle.std.specs.Prelude.{Bool, true, false, if◌then◌else◌, is_some, None}
 use Rattle.imsi.specs.declared.Imsi.{Imsi}
 use Rattle.elements.specs.declared.node.VlrNumber.{VlrNumber}
 use Rattle.elements.specs.Nodes.{same_node}
 use Rattle.station.specs.declared.mark.Mark.{Mark}
 use Rattle.station.specs.declared.mark.Mark.TheVariants as mark
-use Rattle.station.specs.Marks.{doubted}
+use Rattle.station.specs.Marks.{doubted, is_sure_of}
 use Rattle.context.specs.declared.class.ServiceClass.{ServiceClass}
 use Rattle.context.specs.declared.context.Context.{Context}
 use Rattle.context.specs.declared.errand.Errand.TheVariants as errand
@@ -23,19 +23,21 @@ new_context i c = record { imsi = i; class = c; attached = false; mark = mark.No
 abbrev pub attached_now : Context → Context
 attached_now r = record r { attached = true }
 
+-- the record with this mark: every change of a mark is one of these
+abbrev pub with_mark : Mark VlrNumber → Context → Context
+with_mark m r = record r { mark = m }
+
 -- no VLR is sure
 abbrev pub doubtful : Context → Context
-doubtful r = record r { mark = doubted r.mark }
+doubtful r = with_mark (doubted r.mark) r
 
 -- the mark says that this VLR is sure
 abbrev pub sure_at : VlrNumber → Mark VlrNumber → Bool
-sure_at v mark.None = false
-sure_at v (mark.Confirmed n) = same_node n.node v.node
-sure_at v (mark.Unsure n) = false
+sure_at v m = is_sure_of (λ n. same_node n.node v.node) m
 
 -- this VLR is not sure
 abbrev pub doubtful_at : VlrNumber → Context → Context
-doubtful_at v r = cond (sure_at v r.mark) (doubtful r) r
+doubtful_at v r = if sure_at v r.mark then doubtful r else r
 
 -- the reply was settled
 abbrev pub idle : Context → Context

@@ -9,6 +9,7 @@ use Rattle.messages.specs.declared.message.Message.TheVariants.{GprsDetachIndica
 use Rattle.station.specs.declared.mark.Mark.TheVariants as mark
 use Rattle.station.specs.declared.sending.Outgoing.{Outgoing}
 use Rattle.station.specs.Marks.{node_in}
+use Rattle.context.specs.Contexts.{with_mark}
 use Rattle.context.specs.declared.context.Context.{Context}
 use Rattle.context.specs.declared.errand.Errand.TheVariants as errand
 use Rattle.context.specs.declared.errand.Verdict.TheVariants as verdict
@@ -37,12 +38,14 @@ awaited_by kind.SwitchedOff = None
 -- the VLR is unsure until it acknowledges the frame with this stamp, for which it has 8 ticks
 abbrev pub waiting_for : VlrNumber → Option Awaited → ℕ → Context → Context
 waiting_for v None n r = let_go false verdict.Done r
-waiting_for v (Some a) n r = record r { mark = mark.Unsure v; errand = errand.Open (record { vlr = v; stamp = n; ticks = 8; awaited = a }) }
+waiting_for v (Some a) n r =
+    record (with_mark (mark.Unsure v) r) { errand = errand.Open (record { vlr = v; stamp = n; ticks = 8; awaited = a }) }
 
 -- where no VLR is marked none needs to be told
 abbrev pub detached_from : Option VlrNumber → DetachKind → ℕ → Context → Context × Option Outgoing
 detached_from None k n r = (let_go false verdict.Done r, None)
-detached_from (Some v) k n r = (waiting_for v (awaited_by k) n r, Some (record { to = v.node; answers = 0; message = detach_message k r.imsi }))
+detached_from (Some v) k n r =
+    (waiting_for v (awaited_by k) n r, Some (record { to = v.node; answers = 0; message = detach_message k r.imsi }))
 
 -- what a detach makes of the record, and what goes to the VLR that its mark names, with this stamp
 abbrev pub detached : DetachKind → ℕ → Context → Context × Option Outgoing

@@ -13,12 +13,10 @@ verdict_number verdict.NotResponding = 3
 
 -- a verdict is still to come
 abbrev pub is_open : Errand → Bool
-is_open errand.Idle = false
 is_open (errand.Open o) = true
-is_open (errand.Ended v) = false
+is_open e = false
 
 -- a reply is owed
 abbrev pub owes : Errand → Bool
 owes errand.Idle = false
-owes (errand.Open o) = true
-owes (errand.Ended v) = true
+owes e = true

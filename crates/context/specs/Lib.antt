@@ -3,6 +3,7 @@ pub mod Codes
 pub mod Contexts
 pub mod Detaching
 pub mod Errands
+pub mod Few
 pub mod Paging
 pub mod Requesting
 pub mod Sound

@@ -20,15 +20,13 @@ served r = r.attached && has_voice r
 
 -- no VLR is sure but of such a mobile
 abbrev pub sound_mark : Mark VlrNumber → Context → Bool
-sound_mark mark.None r = true
 sound_mark (mark.Confirmed n) r = served r && not (is_open r.errand)
-sound_mark (mark.Unsure n) r = true
+sound_mark m r = true
 
 -- what can make a VLR sure waits for such a mobile only
 abbrev pub sound_awaited : Awaited → Context → Bool
 sound_awaited (Update a) r = served r
-sound_awaited (GprsDetach t n) r = true
-sound_awaited (ImsiDetach s) r = true
+sound_awaited w r = true
 
 -- a tick is left, and 32 at most until it ends
 abbrev pub timed : Open → Bool
@@ -36,9 +34,8 @@ timed o = nat_le 1 o.ticks && nat_le (ticks_left o) 32
 
 -- what is open is so
 abbrev pub sound_errand : Errand → Context → Bool
-sound_errand errand.Idle r = true
 sound_errand (errand.Open o) r = sound_awaited o.awaited r && timed o
-sound_errand (errand.Ended v) r = true
+sound_errand e r = true
 
 -- both hold of the record
 abbrev pub sound : Context → Bool

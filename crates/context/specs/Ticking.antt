@@ -1,5 +1,5 @@
 -- One tick of a mobile's open request or detach.
-use Rattle.std.specs.Prelude.{ℕ, ◌-◌, ◌+◌, ◌*◌, Bool, false, cond, List, [], ◌∷◌, ◌==◌, nat_le}
+use Rattle.std.specs.Prelude.{ℕ, ◌-◌, ◌+◌, ◌*◌, Bool, false, if◌then◌else◌, List, [], ◌∷◌, ◌==◌, nat_le}
 use Rattle.elements.specs.declared.code.GprsDetachType.{GprsDetachType}
 use Rattle.messages.specs.declared.message.Message.TheVariants.{GprsDetachIndication}
 use Rattle.station.specs.declared.sending.Outgoing.{Outgoing}
@@ -17,19 +17,20 @@ with_errand e r = record r { errand = e }
 
 -- whether packet service stays when no answer came
 abbrev pub stays_unanswered : Awaited → Bool → Bool
-stays_unanswered (Update a) b = b
 stays_unanswered (GprsDetach t n) b = false
-stays_unanswered (ImsiDetach s) b = b
+stays_unanswered w b = b
 
 -- no answer came in time, and nothing is repeated any more: the VLR stays unsure
 abbrev pub expired : Open → Context → Context
-expired o r = record r { attached = stays_unanswered o.awaited r.attached; errand = errand.Ended verdict.NotResponding }
+expired o r = record r {
+  attached = stays_unanswered o.awaited r.attached;
+  errand = errand.Ended verdict.NotResponding;
+}
 
 -- how often it can still be told again
 abbrev pub repeats_of : Awaited → ℕ
-repeats_of (Update a) = 0
 repeats_of (GprsDetach t n) = n
-repeats_of (ImsiDetach s) = 0
+repeats_of w = 0
 
 -- how many ticks it takes until it ends, if no answer comes
 abbrev pub ticks_left : Open → ℕ
@@ -37,23 +38,25 @@ ticks_left o = o.ticks + 8 * repeats_of o.awaited
 
 -- told again with this stamp: an answer has 8 ticks once more
 abbrev pub told_again : Open → GprsDetachType → ℕ → ℕ → Open
-told_again o t n stamp = record { vlr = o.vlr; stamp = stamp; ticks = 8; awaited = GprsDetach t (n - 1) }
+told_again o t n stamp = record o { stamp = stamp; ticks = 8; awaited = GprsDetach t (n - 1) }
 
 -- the timer ended: the detach is told again while it can be, else all is over
 abbrev pub run_out : Open → Awaited → ℕ → Context → Context
-run_out o (Update a) stamp r = expired o r
-run_out o (GprsDetach t n) stamp r = cond (n == 0) (expired o r) (with_errand (errand.Open (told_again o t n stamp)) r)
-run_out o (ImsiDetach s) stamp r = expired o r
+run_out o (GprsDetach t n) stamp r =
+    if n == 0 then expired o r
+    else with_errand (errand.Open (told_again o t n stamp)) r
+run_out o w stamp r = expired o r
 
 -- the VLR has a tick less
 abbrev pub one_less : Open → Open
-one_less o = record { vlr = o.vlr; stamp = o.stamp; ticks = o.ticks - 1; awaited = o.awaited }
+one_less o = record o { ticks = o.ticks - 1 }
 
 -- only what is open has a timer
 abbrev pub ticked_errand : Errand → ℕ → Context → Context
-ticked_errand errand.Idle last r = r
-ticked_errand (errand.Open o) last r = cond (nat_le o.ticks 1) (run_out o o.awaited (last + 1) r) (with_errand (errand.Open (one_less o)) r)
-ticked_errand (errand.Ended v) last r = r
+ticked_errand (errand.Open o) last r =
+    if nat_le o.ticks 1 then run_out o o.awaited (last + 1) r
+    else with_errand (errand.Open (one_less o)) r
+ticked_errand e last r = r
 
 -- the record after a tick, where the last stamp before it was this one
 abbrev pub context_ticked : ℕ → Context → Context
@@ -61,15 +64,15 @@ context_ticked last r = ticked_errand r.errand last r
 
 -- the same detach once more, where it can be told again
 abbrev pub detach_again : Open → Awaited → Context → List Outgoing
-detach_again o (Update a) r = []
-detach_again o (GprsDetach t n) r = cond (n == 0) [] (record { to = o.vlr.node; answers = 0; message = GprsDetachIndication r.imsi t } ∷ [])
-detach_again o (ImsiDetach s) r = []
+detach_again o (GprsDetach t n) r =
+    if n == 0 then []
+    else record { to = o.vlr.node; answers = 0; message = GprsDetachIndication r.imsi t } ∷ []
+detach_again o w r = []
 
 -- only at the end of a timer is anything sent
 abbrev pub errand_sends : Errand → Context → List Outgoing
-errand_sends errand.Idle r = []
-errand_sends (errand.Open o) r = cond (nat_le o.ticks 1) (detach_again o o.awaited r) []
-errand_sends (errand.Ended v) r = []
+errand_sends (errand.Open o) r = if nat_le o.ticks 1 then detach_again o o.awaited r else []
+errand_sends e r = []
 
 -- what a tick of it sends
 abbrev pub context_sends : Context → List Outgoing

@@ -21,10 +21,9 @@ impl Context {
             Mark::Unsure(pending.vlr)
         };
         Context {
-            mark,
             area: Some(new_area),
             errand: Errand::Ended(Verdict::Done),
-            ..self
+            ..self.with_mark(mark)
         }
     }
 
@@ -34,9 +33,8 @@ impl Context {
     {
         Context {
             attached: stays,
-            mark: Mark::None,
             errand: Errand::Ended(verdict),
-            ..self
+            ..self.with_mark(Mark::None)
         }
     }
 

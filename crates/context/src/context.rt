@@ -1,6 +1,6 @@
 // What an SGSN keeps of a mobile.
 ghost use Rattle.std.specs.Prelude.{◌≡◌};
-ghost use Rattle.context.specs.Contexts.{new_context, attached_now, doubtful, doubtful_at, idle};
+ghost use Rattle.context.specs.Contexts.{new_context, attached_now, with_mark, doubtful, doubtful_at, idle};
 
 use crate::class::ServiceClass;
 use crate::errand::Errand;
@@ -57,14 +57,18 @@ impl Context {
         }
     }
 
+    // Every change of a mark is made here.
+    pub(crate) fn with_mark(self, mark: Mark<VlrNumber>) -> Context
+        ensures { result ≡ with_mark mark self }
+    {
+        Context { mark, ..self }
+    }
+
     // The VLR is sure no more, whichever it is.
     pub fn doubtful(self) -> Context
         ensures { result ≡ doubtful self }
     {
-        Context {
-            mark: self.mark.doubted(),
-            ..self
-        }
+        self.with_mark(self.mark.doubted())
     }
 
     // This VLR is sure no more; another one stays as it is.

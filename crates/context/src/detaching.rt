@@ -86,9 +86,8 @@ impl Context {
             awaited,
         };
         let waiting = Context {
-            mark: Mark::Unsure(vlr),
             errand: Errand::Open(pending),
-            ..self
+            ..self.with_mark(Mark::Unsure(vlr))
         };
         (waiting, Some(told))
     }

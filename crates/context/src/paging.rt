@@ -38,10 +38,7 @@ impl Context {
         if !self.moves_to(vlr) {
             return (self, None);
         }
-        let after = Context {
-            mark: Mark::Unsure(vlr),
-            ..self
-        };
+        let after = self.with_mark(Mark::Unsure(vlr));
         let Some(before) = self.mark.node() else {
             return (after, None);
         };

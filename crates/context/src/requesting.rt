@@ -50,9 +50,8 @@ impl Context {
         };
         let asked = Context {
             attached: self.attached || kind.attaches(),
-            mark: Mark::Unsure(request.vlr),
             errand: Errand::Open(pending),
-            ..self
+            ..self.with_mark(Mark::Unsure(request.vlr))
         };
         let message = Message::LuRequest {
             imsi: self.imsi,

@@ -1,7 +1,7 @@
 // One tick of a mobile's open request or detach.
-ghost use Rattle.std.specs.Prelude.{◌≡◌, ◌+◌, ◌<◌, true, length};
-ghost use Rattle.std.specs.List.{list_all};
-ghost use Rattle.station.specs.Sends.{HasStamps, Sent, may_go, outgoing_in};
+ghost use Rattle.std.specs.Prelude.{◌≡◌, ◌+◌, ◌<◌};
+ghost use Rattle.station.specs.Sends.{outgoing_in};
+ghost use Rattle.context.specs.Few.{context_few};
 ghost use Rattle.context.specs.Ticking.{expired, run_out, context_sends, context_ticked};
 
 use crate::context::Context;
@@ -11,6 +11,7 @@ use carrier::carrier::Carrier;
 use carrier::in_order::InOrder;
 use messages::message::Message;
 use station::sending::{Outgoing, Sender};
+use station::time::Timed;
 
 impl Context {
     // No answer came in time, and nothing is told again: the VLR stays unsure.
@@ -85,18 +86,20 @@ impl Context {
             _ => None,
         }
     }
+}
 
-    // One tick: answers the record after it.
-    pub fn tick<C: InOrder>(self, sender: &mut Sender, carrier: &mut C) -> Context
-        ensures context { HasStamps 1 sender.old → result ≡ context_ticked sender.old.last self }
-        ensures own { sender.new.own ≡ sender.old.own }
-        ensures last { HasStamps 1 sender.old → sender.new.last ≡ sender.old.last + length (context_sends self) }
-        ensures sent { HasStamps 1 sender.old → list_all (may_go sender.old.own) (context_sends self) ≡ true → Sent C.Carrier.puts sender.old.own sender.old.last (context_sends self) carrier.old carrier.new }
-    {
+impl Timed for Context {
+    ghost ticked = { context_ticked };
+
+    ghost sends = { context_sends };
+
+    fn tick<C: InOrder>(self, sender: &mut Sender, carrier: &mut C) -> Context {
         let after = self.ticked(sender.last);
         if let Some(outgoing) = self.tick_sends() {
             sender.send(carrier, outgoing);
         }
         after
     }
+
+    ghost few = { context_few };
 }

@@ -1,4 +1,3 @@
-pub mod Answers
 pub mod Counts
 pub mod Laws
 pub mod Sound

@@ -1,5 +1,5 @@
 -- What stands between an SGSN, one of its VLRs and the frames between them, whatever calls were made.
-use Rattle.std.specs.Prelude.{◌≡◌, ℕ, ◌<◌, ◌≤◌, ◌⊎◌, Bool, true, false, cond, List, Some, None, Option}
+use Rattle.std.specs.Prelude.{◌≡◌, ℕ, ◌<◌, ◌≤◌, ◌⊎◌, Bool, true, false, if◌then◌else◌, List, Some, None, Option}
 use Rattle.std.specs.List.{find}
 use Rattle.imsi.specs.declared.Imsi.{Imsi}
 use Rattle.elements.specs.declared.node.NodeNumber.{NodeNumber}
@@ -66,7 +66,7 @@ update_stamp o (ImsiDetach b) = None
 
 abbrev pub asked_in : NodeNumber → Errand → Option ℕ
 asked_in n errand.Idle = None
-asked_in n (errand.Open o) = cond (same_node o.vlr.node n) (update_stamp o o.awaited) None
+asked_in n (errand.Open o) = if same_node o.vlr.node n then update_stamp o o.awaited else None
 asked_in n (errand.Ended v) = None
 
 -- the stamp of the LU Request of this mobile that this VLR is to answer, if there is one

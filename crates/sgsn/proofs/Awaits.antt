@@ -11,7 +11,7 @@ use Rattle.elements.specs.declared.node.VlrNumber.{VlrNumber}
 use Rattle.station.specs.Rows.{repeat_now}
 use Rattle.station.specs.declared.denial.Denial.{Denial}
 use Rattle.station.specs.declared.denial.Denial.TheVariants as denial
-use Rattle.station.specs.Calls.{plan, ask, Does}
+use Rattle.station.specs.Calls.{plan, ask, Done}
 use Rattle.station.specs.Sends.{is_worn, Sent}
 use Rattle.context.specs.declared.context.Context.{Context}
 use Rattle.context.specs.declared.errand.Errand.{Errand}
@@ -24,7 +24,7 @@ use Rattle.sgsn.specs.declared.reply.Reply.{Reply}
 use Rattle.sgsn.specs.Awaiting.{is_open_in, is_awaited, Ticked}
 use Rattle.sgsn.specs.Fitting.{fits_in}
 use Rattle.sgsn.specs.Peers.{doubted_by, doubted_by_all}
-use Rattle.sgsn.specs.Recovering.{records_ticked, ticked, tick_sends, ticking}
+use Rattle.sgsn.specs.Recovering.{records_ticked, ticked, tick_sends, tick_plan}
 use Rattle.sgsn.specs.Replies.{owed_to}
 use Rattle.sgsn.specs.State.{State, own_of, last_of, record_at}
 use Rattle.sgsn.proofs.Fits.{fits_at}
@@ -33,9 +33,8 @@ use Rattle.sgsn.proofs.Ticks.{ticked_from}
 
 -- the ticks that an errand, a mobile's errand, can still take
 abbrev pub left_of : Errand → ℕ
-left_of errand.Idle = 0
 left_of (errand.Open o) = ticks_left o
-left_of (errand.Ended v) = 0
+left_of e = 0
 
 abbrev pub left_in : Option Context → ℕ
 left_in None = 0
@@ -91,8 +90,9 @@ ticked_more puts p zero s t u c d e h on is sent = (
 ticked_more puts p (suc n) s t u c d e h on is sent = (h.0, (h.1.0, h.1.1, ticked_more puts p n (ticked s) t u h.1.0 d e h.1.2 on is sent))
 
 -- no tick is denied while a verdict is to come
-pub tick_made : {C : Type 0} (puts : C → List ℕ → C → Type 0) (p : Reply) (s t : State) (r : Result Unit Denial) (c d : C) → is_awaited s p ≡ true → Does own_of last_of puts (ticking s) r s c t d → (t ≡ ticked s) × Sent puts s.own s.last (tick_sends s) c d
+pub tick_made : {C : Type 0} (puts : C → List ℕ → C → Type 0) (p : Reply) (s t : State) (r : Result Unit Denial) (c d : C) → is_awaited s p ≡ true
+    → Done own_of last_of puts (tick_plan s) r s c t d → (t ≡ ticked s) × Sent puts s.own s.last (tick_sends s) c d
 tick_made puts p s t r c d on h =
     let fresh : not (is_worn s.last) ≡ true = (and_parts _ _ (and_parts _ _ on).1).0 in
-    let made = subst (λ b. Does own_of last_of puts (ask b denial.Worn (Ok (plan (ticked s) (tick_sends s)))) r s c t d) fresh h in
+    let made = subst (λ b. Done own_of last_of puts (ask b denial.Worn (Ok (plan (ticked s) (tick_sends s)))) r s c t d) fresh h in
     (made.1, made.2)

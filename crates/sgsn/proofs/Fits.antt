@@ -3,7 +3,7 @@ use Rattle.std.proofs.Common.{◌≡◌, ℕ, ◌+◌, Bool, true, ◌||◌, Lis
 use Rattle.std.proofs.lemmas.Bool.{true≢false, and_parts, and_from, cond_both}
 use Rattle.std.proofs.lemmas.Bool.Decides.{nat_tests}
 use Rattle.std.proofs.lemmas.Option.{none-some}
-use Rattle.std.proofs.lemmas.List.Folds.{list_all-map, list_all-append}
+use Rattle.std.proofs.lemmas.List.Folds.{list_all-map}
 use Rattle.std.specs.List.{list_all}
 use Rattle.imsi.specs.declared.Imsi.{Imsi}
 use Rattle.imsi.specs.Spelling.{lawful_imsi}
@@ -15,6 +15,7 @@ use Rattle.messages.specs.Lawful.{lawful_area}
 use Rattle.frames.specs.declared.frame.Frame.{Frame}
 use Rattle.frames.specs.Format.{lawful_nodes}
 use Rattle.directory.specs.Lookup.{at, stored}
+use Rattle.directory.proofs.Everyone.{all_at, all_stored, all_map}
 use Rattle.station.specs.declared.row.Row.{Row}
 use Rattle.station.specs.Sends.{may_go, outgoing_in}
 use Rattle.context.specs.declared.class.ServiceClass.{ServiceClass}
@@ -35,23 +36,8 @@ use Rattle.sgsn.specs.declared.peer.Peer.{Peer}
 use Rattle.sgsn.specs.Fitting.{is_one_of, fits_in}
 use Rattle.station.specs.Rows.{repeat_now}
 use Rattle.sgsn.specs.Peers.{with_row, sent_it, row_changed, peers_lost, peer_sends, peers_ticked, doubted_by, doubted_by_all}
-use Rattle.sgsn.specs.Recovering.{records_ticked, records_sends}
-use Rattle.sgsn.specs.Settling.{settled_errand}
-
--- one of many, and many changed: each passes a test
-all_at : {R : Type 0} (w : R → Imsi) (p : R → Bool) (xs : List R) (i : Imsi) (r : R) → list_all p xs ≡ true → at w xs i ≡ Some r → p r ≡ true
-all_at w p [] i r f e = absurd (none-some r e)
-all_at w p (x ∷ xs) i r f e = grind (arith, nat_tests, all_at w p xs i r)
-
-all_stored : {R : Type 0} (w : R → Imsi) (p : R → Bool) (r : R) (xs : List R) → list_all p xs ≡ true → p r ≡ true → list_all p (stored w r xs) ≡ true
-all_stored w p r [] f g = and_from _ _ g refl
-all_stored w p r (x ∷ xs) f g = grind (arith, nat_tests, all_stored w p r xs)
-
-all_map : {R : Type 0} (p : R → Bool) (f : R → R) (xs : List R) → ((r : R) → p r ≡ true → p (f r) ≡ true) → list_all p xs ≡ true → list_all p (map f xs) ≡ true
-all_map p f [] keeps g = refl
-all_map p f (x ∷ xs) keeps g =
-    let parts = and_parts (p x) (list_all p xs) g in
-    and_from _ _ (keeps x parts.0) (all_map p f xs keeps parts.1)
+use Rattle.sgsn.specs.Recovering.{records_ticked}
+use Rattle.sgsn.proofs.Moves.{settled}
 
 pub fits_at : (vs : List VlrNumber) (xs : List Context) (i : Imsi) (r : Context) → list_all (fits_in vs) xs ≡ true → at whose xs i ≡ Some r → fits_in vs r ≡ true
 fits_at vs xs i r f e = all_at whose (fits_in vs) xs i r f e
@@ -77,7 +63,7 @@ fits_doubtful_at vs v r f = grind (arith, nat_tests)
 pub fits_expired : (vs : List VlrNumber) (o : Open) (r : Context) → r.errand ≡ errand.Open o → fits_in vs r ≡ true → fits_in vs (expired o r) ≡ true
 fits_expired vs o r e f = grind (arith, nat_tests)
 
-pub fits_settled : (vs : List VlrNumber) (r : Context) → fits_in vs r ≡ true → fits_in vs (settled_errand r.errand r) ≡ true
+pub fits_settled : (vs : List VlrNumber) (r : Context) → fits_in vs r ≡ true → fits_in vs (settled r) ≡ true
 fits_settled vs r f = grind (arith, nat_tests)
 
 pub fits_requested : (vs : List VlrNumber) (k : RequestKind) (c : Class) (q : Request) (n : ℕ) (r : Context) → fits_in vs r ≡ true → voice_class r.class ≡ Some c → is_one_of vs q.vlr ≡ true → (attaches k || r.attached) ≡ true → fits_in vs (requested k c q n r).0 ≡ true
@@ -141,8 +127,8 @@ may_page own vs v n r all f its = grind (arith, nat_tests, reach_one)
 pub may_tick : (own : NodeNumber) (vs : List VlrNumber) (r : Context) → reaches own vs ≡ true → fits_in vs r ≡ true → list_all (may_go own) (context_sends r) ≡ true
 may_tick own vs r all f = grind (arith, nat_tests, reach_one)
 
-pub may_all_tick : (own : NodeNumber) (vs : List VlrNumber) (rs : List Context) → reaches own vs ≡ true → list_all (fits_in vs) rs ≡ true → list_all (may_go own) (records_sends rs) ≡ true
-may_all_tick own vs [] all f = refl
-may_all_tick own vs (r ∷ rs) all f =
+pub may_each_tick : (own : NodeNumber) (vs : List VlrNumber) (rs : List Context) → reaches own vs ≡ true → list_all (fits_in vs) rs ≡ true → list_all (λ r. list_all (may_go own) (context_sends r)) rs ≡ true
+may_each_tick own vs [] all f = refl
+may_each_tick own vs (r ∷ rs) all f =
     let parts = and_parts (fits_in vs r) (list_all (fits_in vs) rs) f in
-    list_all-append (may_go own) (context_sends r) (records_sends rs) ∙ and_from _ _ (may_tick own vs r all parts.0) (may_all_tick own vs rs all parts.1)
+    and_from _ _ (may_tick own vs r all parts.0) (may_each_tick own vs rs all parts.1)

@@ -1,21 +1,22 @@
 -- What a loss and a tick leave in an SGSN's places, from which what holds of every SGSN follows.
-use Rattle.std.proofs.Common.{◌≡◌, ℕ, ◌+◌, ◌-◌, ◌≤◌, true, List, ◌++◌, map, length, take, drop, sym, ap, subst, ◌∙◌, arith}
+use Rattle.std.proofs.Common.{◌≡◌, ℕ, ◌-◌, ◌≤◌, true, List, ◌++◌, map, length, take, drop, sym, ap, subst, ◌∙◌, arith}
 use native.Mathlib.Nat.{sub-zero}
-use Rattle.std.proofs.lemmas.List.{take_at, length-append, length-map, length-take-le}
+use Rattle.std.proofs.lemmas.List.{take_at, length-map, length-take-le}
 use Rattle.std.proofs.lemmas.List.Folds.{list_all-map}
 use Rattle.std.specs.List.{list_all}
 use Rattle.elements.specs.declared.node.NodeNumber.{NodeNumber}
 use Rattle.frames.specs.Format.{lawful_nodes}
-use Rattle.station.specs.Sends.{Sent}
-use Rattle.station.proofs.Chains.{sent_more}
+use Rattle.station.specs.declared.sending.Sender.{Sender}
+use Rattle.station.specs.Times.{Clock, record_clock, peer_clock, CanTick, AllTicked}
 use Rattle.context.specs.declared.context.Context.{Context}
 use Rattle.context.specs.Contexts.{whose}
+use Rattle.context.specs.Ticking.{context_ticked, context_sends}
 use Rattle.sgsn.specs.declared.peer.Peer.{Peer}
 use Rattle.sgsn.specs.declared.sgsn.Sgsn.{Sgsn}
-use Rattle.sgsn.specs.Peers.{peers_ticked, peers_sends, doubted_by_all}
-use Rattle.sgsn.specs.Recovering.{records_ticked, records_sends, ticked, tick_sends}
+use Rattle.sgsn.specs.Peers.{peer_ticked, peer_sends, peers_ticked, doubted_by}
+use Rattle.sgsn.specs.Recovering.{ticked}
 use Rattle.sgsn.specs.State.{state_of}
-use Rattle.sgsn.proofs.Fits.{vlrs_ticked}
+use Rattle.sgsn.proofs.Fits.{vlrs_ticked, may_each_tick, reach_peers}
 use Rattle.sgsn.proofs.Ticks.{mobiles_ticked, mobiles_doubted}
 
 -- the first n places, after all of them were changed
@@ -35,43 +36,45 @@ reached own mine ps qs same e nodes =
     ∙ list_all-map (λ v. lawful_nodes own v.node) (λ p. p.vlr) ps
     ∙ nodes
 
--- what a tick leaves, by what its two loops say
-pub peers_left : (s : Sgsn) {own : NodeNumber} {last : ℕ} {new : List Peer} → own ≡ s.sender.own → last ≡ s.sender.last + length (records_sends (take (s.held - 0) s.places)) → new ≡ peers_ticked own last (take (s.count - 0) s.peers)
-    → take s.count (new ++ drop (s.count - 0) s.peers) ≡ (ticked (state_of s)).peers
-peers_left s {own} {last} {new} same on is =
-    let ps = take (s.count - 0) s.peers in
-    let size : length new ≡ length ps = sym (length-map new (λ p. p.vlr)) ∙ ap (λ l. length (map (λ p. p.vlr) l)) is ∙ ap length (vlrs_ticked own last ps) ∙ length-map ps (λ p. p.vlr) in
-    let long : length new ≡ s.count = size ∙ length-take-le (s.count - 0) s.peers (omega (arith, s.served, s.four)) ∙ sub-zero s.count in
-    let from : last ≡ s.sender.last + length (records_sends (take s.held s.places)) = on ∙ ap (λ k. s.sender.last + length (records_sends (take k s.places))) (sub-zero s.held) in
-    front s.count s.peers new (peers_ticked s.sender.own (s.sender.last + length (records_sends (take s.held s.places)))) long (is ∙ (λ k. peers_ticked (same k) (from k) ps))
+-- a tick leaves as many VLRs and as many records
+pub peers_long : (s : Sgsn) (own : NodeNumber) (last : ℕ) (new : List Peer) → new ≡ peers_ticked own last (take s.count s.peers) → length new ≡ s.count
+peers_long s own last new is =
+    let ps = take s.count s.peers in
+    sym (length-map new (λ p. p.vlr)) ∙ ap (λ l. length (map (λ p. p.vlr) l)) is ∙ ap length (vlrs_ticked own last ps) ∙ length-map ps (λ p. p.vlr)
+    ∙ length-take-le s.count s.peers (omega (arith, s.served, s.four))
 
-pub records_left : (s : Sgsn) {between new : List Context} → between ≡ records_ticked s.sender.last (take (s.held - 0) s.places) → new ≡ doubted_by_all (take (s.count - 0) s.peers) between
-    → (length new ≡ s.held) × (take s.held (new ++ drop (s.held - 0) s.places) ≡ (ticked (state_of s)).records)
-records_left s {between} {new} is doubted =
-    let ps = take (s.count - 0) s.peers in
-    let rs = take (s.held - 0) s.places in
-    let mobiles : map whose new ≡ map whose rs = ap (map whose) doubted ∙ mobiles_doubted ps between ∙ ap (map whose) is ∙ mobiles_ticked s.sender.last rs in
-    let size : length new ≡ length rs = sym (length-map new whose) ∙ ap length mobiles ∙ length-map rs whose in
-    let long : length new ≡ s.held = size ∙ length-take-le (s.held - 0) s.places (omega (arith, s.few, s.all)) ∙ sub-zero s.held in
-    (long, front s.held s.places new (λ l. doubted_by_all (take s.count s.peers) (records_ticked s.sender.last l)) long (doubted ∙ (λ k. doubted_by_all (take (sub-zero s.count k) s.peers) (is k))))
+pub mobiles_left : (s : Sgsn) (new : List Context) → new ≡ (ticked (state_of s)).records → map whose new ≡ map whose (take s.held s.places)
+mobiles_left s new is = ap (map whose) is ∙ mobiles_doubted (take s.count s.peers) _ ∙ mobiles_ticked s.sender.last (take s.held s.places)
 
-pub last_left : (s : Sgsn) {own : NodeNumber} {last next : ℕ} → own ≡ s.sender.own → last ≡ s.sender.last + length (records_sends (take (s.held - 0) s.places)) → next ≡ last + length (peers_sends own (take (s.count - 0) s.peers))
-    → next ≡ (ticked (state_of s)).last
-last_left s {own} {last} {next} same on is =
-    let rs = records_sends (take s.held s.places) in
-    let ps = peers_sends s.sender.own (take s.count s.peers) in
-    let first : last ≡ s.sender.last + length rs = on ∙ ap (λ k. s.sender.last + length (records_sends (take k s.places))) (sub-zero s.held) in
-    let then : next ≡ last + length ps = is ∙ (λ k. last + length (peers_sends (same k) (take (sub-zero s.count k) s.peers))) in
-    omega (arith, length-append rs ps)
+pub records_long : (s : Sgsn) (new : List Context) → new ≡ (ticked (state_of s)).records → length new ≡ s.held
+records_long s new is =
+    sym (length-map new whose) ∙ ap length (mobiles_left s new is) ∙ length-map (take s.held s.places) whose
+    ∙ length-take-le s.held s.places (omega (arith, s.few, s.all))
 
-pub sent_left : {C : Type 0} (puts : C → List ℕ → C → Type 0) (s : Sgsn) {own : NodeNumber} {last : ℕ} (c m d : C) → own ≡ s.sender.own → last ≡ s.sender.last + length (records_sends (take (s.held - 0) s.places))
-    → Sent puts s.sender.own s.sender.last (records_sends (take (s.held - 0) s.places)) c m → Sent puts own last (peers_sends own (take (s.count - 0) s.peers)) m d
-    → Sent puts s.sender.own s.sender.last (tick_sends (state_of s)) c d
-sent_left puts s {own} {last} c m d same on first then =
-    let rs = records_sends (take s.held s.places) in
-    let from : last ≡ s.sender.last + length rs = on ∙ ap (λ k. s.sender.last + length (records_sends (take k s.places))) (sub-zero s.held) in
-    sent_more puts s.sender.own s.sender.last rs (peers_sends s.sender.own (take s.count s.peers)) c m d
-    (subst (λ k. Sent puts s.sender.own s.sender.last (records_sends (take k s.places)) c m) (sub-zero s.held) first)
-    (subst (λ n. Sent puts s.sender.own n (peers_sends s.sender.own (take s.count s.peers)) m d) from
-    (subst (λ n. Sent puts n last (peers_sends n (take s.count s.peers)) m d) same
-    (subst (λ k. Sent puts own last (peers_sends own (take k s.peers)) m d) (sub-zero s.count) then)))
+-- how records and VLRs tick
+abbrev pub records_clock : Clock Context
+records_clock = record_clock context_ticked context_sends
+
+abbrev pub peers_clock : Clock Peer
+peers_clock = peer_clock (λ p. p.vlr.node) peer_ticked peer_sends
+
+-- an SGSN that is not worn can tick
+pub can_tick : (s : Sgsn) → s.sender.last ≤ 4294965000 → CanTick records_clock peers_clock s.sender (take s.held s.places) (take s.count s.peers)
+can_tick s fresh =
+    let ps = take s.count s.peers in
+    let rs = take s.held s.places in
+    let few = length-take-le s.held s.places (omega (arith, s.few, s.all)) in
+    let four = length-take-le s.count s.peers (omega (arith, s.served, s.four)) in
+    record {
+      stamps = omega (arith, few, four, s.few, s.served);
+      records = may_each_tick s.sender.own (map (λ p. p.vlr) ps) rs (reach_peers s.sender.own ps s.nodes) s.fit;
+      peers = s.nodes;
+    }
+
+-- what its tick does, said of its places
+pub all_ticked : {C : Type 0} (puts : C → List ℕ → C → Type 0) (s : Sgsn) (c : C) (t : Sender) (qs : List Context) (os : List Peer) (d : C)
+    → let Ticks : List Context → List Peer → Type 0 = λ rs ps. CanTick records_clock peers_clock s.sender rs ps → AllTicked records_clock peers_clock doubted_by puts s.sender rs ps c t qs os d in
+    s.sender.last ≤ 4294965000 → Ticks (take (s.held - 0) s.places) (take (s.count - 0) s.peers) → AllTicked records_clock peers_clock doubted_by puts s.sender (take s.held s.places) (take s.count s.peers) c t qs os d
+all_ticked puts s c t qs os d fresh did =
+    let Ticks : List Context → List Peer → Type 0 = λ rs ps. CanTick records_clock peers_clock s.sender rs ps → AllTicked records_clock peers_clock doubted_by puts s.sender rs ps c t qs os d in
+    subst (λ k. Ticks (take k s.places) (take s.count s.peers)) (sub-zero s.held) (subst (λ k. Ticks (take (s.held - 0) s.places) (take k s.peers)) (sub-zero s.count) did) (can_tick s fresh)

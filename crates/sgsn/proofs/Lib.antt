@@ -1,6 +1,7 @@
 pub mod Awaits
 pub mod Delivers
 pub mod Fits
+pub mod Granted
 pub mod Keeps
 pub mod Kept
 pub mod Loops
@@ -9,7 +10,4 @@ pub mod Moves
 pub mod Places
 pub mod Requests
 pub mod Senders
-pub mod Stamps
 pub mod Ticks
-pub mod Turns
-pub mod Granted

@@ -1,29 +1,33 @@
 -- What a frame does at an SGSN.
-use Rattle.std.specs.Prelude.{ℕ, Bool, true, cond, List, [], map, Some, None, Option, Result}
+use Rattle.std.specs.Prelude.{◌≡◌, ℕ, Bool, true, if◌then◌else◌, List, [], map, Some, None, Option, Result}
 use Rattle.imsi.specs.declared.Imsi.{Imsi}
 use Rattle.elements.specs.declared.node.NodeNumber.{NodeNumber}
 use Rattle.frames.specs.declared.frame.Frame.{Frame}
 use Rattle.messages.specs.declared.message.Message.{Message}
 use Rattle.messages.specs.declared.message.Message.TheVariants.{Paging, Reset, ResetAcknowledge}
 use Rattle.station.specs.declared.receiving.Delivery.{Delivery}
-use Rattle.station.specs.declared.receiving.Delivery.TheVariants as delivery
+use Rattle.station.specs.declared.receiving.Delivery.TheVariants as order
 use Rattle.station.specs.declared.receiving.Refusal.{Refusal}
 use Rattle.station.specs.declared.sending.Outgoing.{Outgoing}
-use Rattle.station.specs.Calls.{Plan}
-use Rattle.station.specs.Receiving.{mobile_in, Delivered}
-use Rattle.station.specs.Sends.{outgoing_in}
+use Rattle.station.specs.Calls.{Plan, Course, quietly, delivering}
+use Rattle.station.specs.Receiving.{mobile_in}
+use Rattle.station.specs.Sends.{Sent, outgoing_in}
 use Rattle.station.specs.Rows.{reset_taken, acknowledged}
 use Rattle.context.specs.declared.context.Context.{Context}
 use Rattle.context.specs.Contexts.{doubtful_at}
 use Rattle.context.specs.Answering.{answered}
 use Rattle.context.specs.Paging.{paged}
 use Rattle.sgsn.specs.declared.peer.Peer.{Peer}
+use Rattle.sgsn.specs.declared.sgsn.Sgsn.{Sgsn}
 use Rattle.sgsn.specs.Peers.{peer_from, row_changed}
-use Rattle.sgsn.specs.State.{State, own_of, last_of, record_at, with_context, with_sent}
+use Rattle.sgsn.specs.State.{State, state_of, last_of, record_at, with_context, with_sent}
 
 -- a RESET makes the records doubtful that say that its VLR is sure, and is acknowledged later
 abbrev pub reset_by : State → Frame → Peer → State
-reset_by s f p = record s { peers = row_changed f (λ r. reset_taken r f.stamp) s.peers; records = map (doubtful_at p.vlr) s.records }
+reset_by s f p = record s {
+  peers = row_changed f (λ r. reset_taken r f.stamp) s.peers;
+  records = map (doubtful_at p.vlr) s.records;
+}
 
 abbrev pub acknowledged_by : State → Frame → State
 acknowledged_by s f = record s { peers = row_changed f (λ r. acknowledged r f.answers) s.peers }
@@ -51,35 +55,27 @@ answered_by s f p (Some r) = with_context s (answered p.vlr f.answers p.row.rese
 
 -- where the radio side is to page, this is its order
 abbrev pub ordering : Delivery → Plan Bool State → Plan Delivery State
-ordering d p = record { answer = cond p.answer d delivery.Done; after = p.after; sends = p.sends }
-
--- nothing is ordered or sent
-abbrev pub quietly : State → Plan Delivery State
-quietly t = record { answer = delivery.Done; after = t; sends = [] }
+ordering d p = record { answer = if p.answer then d else order.Done; after = p.after; sends = p.sends }
 
 -- what a frame from this VLR does
 abbrev pub taken_by : State → Frame → Peer → Message → Plan Delivery State
 taken_by s f p (Reset e) = quietly (reset_by s f p)
 taken_by s f p (ResetAcknowledge e) = quietly (acknowledged_by s f)
-taken_by s f p (Paging i t c) = ordering (delivery.PageOrder i t c) (paged_by s f p (record_at s i))
+taken_by s f p (Paging i t c) = ordering (order.PageOrder i t c) (paged_by s f p (record_at s i))
 taken_by s f p m = quietly (answered_by s f p (noted s m))
 
 abbrev pub taken : State → Frame → Option Peer → Plan Delivery State
 taken s f None = quietly s
 taken s f (Some p) = taken_by s f p f.message
 
--- what any frame does
-abbrev pub by_frame : State → Frame → Plan Delivery State
-by_frame s f = taken s f (peer_from f s.peers)
+-- what any frame does: one that none of its VLRs sent, or that names another, has no effect
+abbrev pub frame_plan : State → Frame → Plan Delivery State
+frame_plan s f = taken s f (peer_from f s.peers)
 
-abbrev pub moved_by_frame : State → Frame → State
-moved_by_frame s f = (by_frame s f).after
+-- one take, and what the frame does that was taken
+abbrev pub delivery : State → Course Delivery State Refusal
+delivery s = delivering last_of frame_plan s
 
-abbrev pub sends_by_frame : State → Frame → List Outgoing
-sends_by_frame s f = (by_frame s f).sends
-
-abbrev pub answer_by_frame : State → Frame → Delivery
-answer_by_frame s f = (by_frame s f).answer
-
-abbrev pub Delivers : {C : Type 0} → (C → NodeNumber → Option (List ℕ) → C → Type 0) → (C → List ℕ → C → Type 0) → Result Delivery Refusal → State → C → State → C → Type 0
-Delivers takes puts r s c t d = Delivered own_of last_of moved_by_frame sends_by_frame answer_by_frame takes puts r s c t d
+-- what a part of a delivery answers, leaves and puts
+abbrev pub Did : {T C : Type 0} → (C → List ℕ → C → Type 0) → Plan T State → T → Sgsn → C → Sgsn → C → Type 0
+Did puts p r s c t d = (r ≡ p.answer) × (state_of t ≡ p.after) × Sent puts s.sender.own s.sender.last p.sends c d

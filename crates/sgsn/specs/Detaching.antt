@@ -4,9 +4,8 @@ use Rattle.imsi.specs.declared.Imsi.{Imsi}
 use Rattle.imsi.specs.Spelling.{lawful_imsi}
 use Rattle.station.specs.declared.denial.Denial.{Denial}
 use Rattle.station.specs.declared.denial.Denial.TheVariants as denial
-use Rattle.station.specs.Calls.{Plan, ask, ask_for}
+use Rattle.station.specs.Calls.{Plan, ask, ask_for, unless_worn}
 use Rattle.station.specs.Marks.{node_in}
-use Rattle.station.specs.Sends.{is_worn}
 use Rattle.context.specs.declared.context.Context.{Context}
 use Rattle.context.specs.declared.kind.DetachKind.{DetachKind}
 use Rattle.context.specs.declared.kind.DetachKind.TheVariants as kind
@@ -21,9 +20,9 @@ mark_allows kind.Imsi r = is_some (node_in r.mark)
 mark_allows k r = true
 
 -- the questions in their order; then the mobile's record waits for the VLR, or has its verdict at once
-abbrev pub detached : State → Imsi → ℕ → Result (Plan Unit State) Denial
-detached s i code =
-    ask (not (is_worn s.last)) denial.Worn
+abbrev pub detach_plan : State → Imsi → ℕ → Result (Plan Unit State) Denial
+detach_plan s i code =
+    unless_worn s.last
     (ask_for (detach_kind_in code) denial.UnlistedCode (λ k.
     ask (lawful_imsi i.digits i.value) denial.UnlawfulImsi
     (ask_for (record_at s i) denial.NotEnrolled (λ r.

@@ -1,4 +1,5 @@
 pub mod Awaiting
+pub mod Calls
 pub mod Delivering
 pub mod Detaching
 pub mod Enrolling

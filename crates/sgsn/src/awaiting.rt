@@ -15,7 +15,7 @@ impl Sgsn {
     fn is_awaited(&self, reply: &Reply) -> bool
         ensures { result ≡ is_awaited (state_of self.now) reply.now }
     {
-        reply.owed_by() == self.sender.own
+        reply.owed_by().node == self.sender.own
             && !self.sender.is_worn()
             && self
                 .record_of(reply.owed_to())
@@ -37,7 +37,8 @@ impl Sgsn {
         carrier: &mut C,
         reply: Reply,
     ) -> Result<Verdict, (Denial, Reply)>
-        ensures settled { SettledInTime C.Carrier.puts reply result (state_of self.old) carrier.old (state_of self.new) carrier.new }
+        ensures settled { SettledInTime C.Carrier.puts reply result
+            (state_of self.old) carrier.old (state_of self.new) carrier.new }
         ensures denied { IfErr result (λ e. e ≡ (Denial.NoSuchReply, reply)) }
     {
         self.wait(carrier, &reply);

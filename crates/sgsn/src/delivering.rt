@@ -1,14 +1,15 @@
 // Taking a frame from a VLR.
-ghost use Rattle.std.specs.Prelude.{◌≡◌, ◌<◌, true, map};
+ghost use Rattle.std.specs.Prelude.{◌≡◌, true, map};
 ghost use Rattle.station.specs.Sends.{HasStamps};
 ghost use Rattle.context.specs.Contexts.{doubtful_at};
 ghost use Rattle.sgsn.specs.Fitting.{is_one_of};
 ghost use Rattle.sgsn.specs.Peers.{SentBy};
-ghost use Rattle.sgsn.specs.State.{state_of, vlrs_of, record_at, with_records, with_row_at, Did};
-ghost use Rattle.sgsn.specs.Delivering.{noted, reset_by, acknowledged_by, answered_by, paged_by, taken_by, Delivers};
+ghost use Rattle.sgsn.specs.State.{state_of, vlrs_of, record_at, with_records, Does};
+ghost use Rattle.sgsn.specs.Delivering.{noted, reset_by, acknowledged_by, answered_by, paged_by, taken_by};
+ghost use Rattle.sgsn.specs.Delivering.{Did, delivery};
 
 use crate::peer::Peer;
-use crate::peers::{place_of_sender, set_row};
+use crate::peers::{place_of_sender, take_acknowledgement_at, take_reset_at};
 use crate::sgsn::Sgsn;
 use carrier::carrier::Carrier;
 use carrier::in_order::InOrder;
@@ -20,22 +21,14 @@ use imsi::Imsi;
 use messages::message::Message;
 use station::denial::Denial;
 use station::receiving::{Delivery, Refusal, mobile_in, take_frame};
-use station::row::Row;
 
 impl Sgsn {
     // No record says any more that this VLR is sure.
     fn doubt_at(&mut self, vlr: VlrNumber)
-        ensures { state_of self.new ≡ with_records (state_of self.old) (map (doubtful_at vlr) (state_of self.old).records) }
+        ensures { state_of self.new
+            ≡ with_records (state_of self.old) (map (doubtful_at vlr) (state_of self.old).records) }
     {
         change_each(&mut self.places, self.held, &DoubtAt { vlr });
-    }
-
-    // Keeps this of the VLR at `i`.
-    fn keep_row(&mut self, i: usize, row: Row)
-        requires { i < self.old.count }
-        ensures { state_of self.new ≡ with_row_at (state_of self.old) i row }
-    {
-        set_row(&mut self.peers, i, row);
     }
 
     // Takes a RESET from this VLR, the one at `i`: it is sure of no mobile, and is told later that the RESET came.
@@ -44,7 +37,7 @@ impl Sgsn {
         ensures { state_of self.new ≡ reset_by (state_of self.old) frame peer }
     {
         self.doubt_at(peer.vlr);
-        self.keep_row(i, peer.row.reset_taken(frame.stamp));
+        take_reset_at(&mut self.peers, i, frame.stamp);
     }
 
     // Takes a RESET_ACKNOWLEDGE from this VLR, the one at `i`.
@@ -52,7 +45,7 @@ impl Sgsn {
         requires { SentBy frame i peer (state_of self.old).peers }
         ensures { state_of self.new ≡ acknowledged_by (state_of self.old) frame }
     {
-        self.keep_row(i, peer.row.acknowledged(frame.answers));
+        take_acknowledgement_at(&mut self.peers, i, frame.answers);
     }
 
     // Takes a page of a mobile from this VLR, and tells whether the radio side is to page the mobile.
@@ -65,7 +58,9 @@ impl Sgsn {
     ) -> bool
         requires its { is_one_of (vlrs_of (state_of self.old)) peer.vlr ≡ true }
         requires stamps { HasStamps 1 self.old.sender }
-        ensures { Did C.Carrier.puts (paged_by (state_of self.old) frame peer (record_at (state_of self.old) imsi)) result self.old carrier.old self.new carrier.new }
+        ensures { Did C.Carrier.puts
+            (paged_by (state_of self.old) frame peer (record_at (state_of self.old) imsi))
+            result self.old carrier.old self.new carrier.new }
     {
         let Some(before) = self.record_of(imsi) else {
             return true;
@@ -77,7 +72,8 @@ impl Sgsn {
 
     // Takes any other message from this VLR: it may be the answer that its mobile's record waits for.
     fn take_answer(&mut self, peer: Peer, frame: Frame)
-        ensures { state_of self.new ≡ answered_by (state_of self.old) frame peer (noted (state_of self.old) frame.message) }
+        ensures { state_of self.new
+            ≡ answered_by (state_of self.old) frame peer (noted (state_of self.old) frame.message) }
     {
         let Some(imsi) = mobile_in(frame.message) else {
             return;
@@ -92,7 +88,8 @@ impl Sgsn {
     fn take<C: InOrder>(&mut self, carrier: &mut C, i: usize, peer: Peer, frame: Frame) -> Delivery
         requires sender { SentBy frame i peer (state_of self.old).peers }
         requires stamps { HasStamps 1 self.old.sender }
-        ensures { Did C.Carrier.puts (taken_by (state_of self.old) frame peer frame.message) result self.old carrier.old self.new carrier.new }
+        ensures { Did C.Carrier.puts (taken_by (state_of self.old) frame peer frame.message)
+            result self.old carrier.old self.new carrier.new }
     {
         match frame.message {
             Message::Paging {
@@ -117,7 +114,8 @@ impl Sgsn {
 
     // Takes once from the carrier.
     pub fn deliver<C: InOrder>(&mut self, carrier: &mut C) -> Result<Delivery, Refusal>
-        ensures { Delivers C.Carrier.takes C.Carrier.puts result (state_of self.old) carrier.old (state_of self.new) carrier.new }
+        ensures { Does C.Carrier.takes C.Carrier.puts delivery
+            result self.old carrier.old self.new carrier.new }
     {
         if self.sender.is_worn() {
             return Err(Refusal::Denied(Denial::Worn));

@@ -1,8 +1,8 @@
 // A detach: a mobile that gives up packet service, voice service, or both.
-ghost use Rattle.station.specs.Calls.{answering};
+ghost use Rattle.station.specs.Calls.{AtOnce, plan_with};
 ghost use Rattle.sgsn.specs.State.{Does};
 ghost use Rattle.sgsn.specs.Replies.{reply_to};
-ghost use Rattle.sgsn.specs.Detaching.{detached};
+ghost use Rattle.sgsn.specs.Detaching.{detach_plan};
 
 use crate::reply::Reply;
 use crate::sgsn::Sgsn;
@@ -20,7 +20,8 @@ impl Sgsn {
         imsi: Imsi,
         kind: u8,
     ) -> Result<(), Denial>
-        ensures { Does C.Carrier.puts (λ s. detached s imsi kind) result self.old carrier.old self.new carrier.new }
+        ensures { Does C.Carrier.takes C.Carrier.puts (λ s. AtOnce (detach_plan s imsi kind))
+            result self.old carrier.old self.new carrier.new }
     {
         if self.sender.is_worn() {
             return Err(Denial::Worn);
@@ -56,7 +57,9 @@ impl Sgsn {
         imsi: Imsi,
         kind: u8,
     ) -> Result<Reply, Denial>
-        ensures { Does C.Carrier.puts (λ s. answering (reply_to s.own imsi) (detached s imsi kind)) result self.old carrier.old self.new carrier.new }
+        ensures { Does C.Carrier.takes C.Carrier.puts
+            (λ s. AtOnce (plan_with (λ u. reply_to s.own imsi) (λ d. d) (detach_plan s imsi kind)))
+            result self.old carrier.old self.new carrier.new }
     {
         let own = self.sender.own;
         self.open_detach(carrier, imsi, kind)?;

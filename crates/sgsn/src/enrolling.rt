@@ -1,6 +1,6 @@
 // Enrolling a mobile, and giving it packet service.
 ghost use Rattle.sgsn.specs.State.{Decides};
-ghost use Rattle.sgsn.specs.Enrolling.{enrolled, attached};
+ghost use Rattle.sgsn.specs.Enrolling.{enrol_plan, attach_plan};
 
 use crate::sgsn::Sgsn;
 use context::class::ServiceClass;
@@ -12,7 +12,7 @@ use station::denial::Denial;
 impl Sgsn {
     // Gives a new mobile a record: it uses the services of the class with this code, and is detached.
     pub fn enrol(&mut self, imsi: Imsi, class: u8) -> Result<(), Denial>
-        ensures { Decides (λ s. enrolled s imsi class) result self.old self.new }
+        ensures { Decides (λ s. enrol_plan s imsi class) result self.old self.new }
     {
         if self.sender.is_worn() {
             return Err(Denial::Worn);
@@ -35,7 +35,7 @@ impl Sgsn {
 
     // Gives a mobile packet service.
     pub fn attach(&mut self, imsi: Imsi) -> Result<(), Denial>
-        ensures { Decides (λ s. attached s imsi) result self.old self.new }
+        ensures { Decides (λ s. attach_plan s imsi) result self.old self.new }
     {
         if self.sender.is_worn() {
             return Err(Denial::Worn);

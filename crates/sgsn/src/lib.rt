@@ -2,6 +2,7 @@
 #![tactic(auto)]
 
 pub mod awaiting;
+pub mod call;
 pub mod delivering;
 pub mod detaching;
 pub mod enrolling;

@@ -2,7 +2,7 @@
 ghost use Rattle.std.specs.Prelude.{◌≡◌};
 ghost use Rattle.sgsn.specs.Replies.{reply_to, owed_by, owed_to};
 
-use elements::node::NodeNumber;
+use elements::node::{NodeNumber, SgsnNumber};
 use imsi::Imsi;
 
 // Which SGSN owes it, and which mobile is to have it: the mobile's number by its digits and its value.
@@ -26,10 +26,12 @@ impl Reply {
     }
 
     // The SGSN that owes it.
-    pub fn owed_by(&self) -> NodeNumber
+    pub fn owed_by(&self) -> SgsnNumber
         ensures { result ≡ owed_by self.now }
     {
-        NodeNumber { number: self.sgsn }
+        SgsnNumber {
+            node: NodeNumber { number: self.sgsn },
+        }
     }
 
     // The mobile that it is owed to.

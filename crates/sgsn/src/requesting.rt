@@ -2,11 +2,11 @@
 ghost use Rattle.std.specs.Prelude.{◌≡◌};
 ghost use Rattle.std.specs.List.{list_any};
 ghost use Rattle.elements.specs.Nodes.{same_node};
-ghost use Rattle.station.specs.Calls.{answering};
+ghost use Rattle.station.specs.Calls.{AtOnce, plan_with};
 ghost use Rattle.sgsn.specs.Fitting.{is_one_of};
 ghost use Rattle.sgsn.specs.State.{state_of, vlrs_of, Does};
 ghost use Rattle.sgsn.specs.Replies.{reply_to};
-ghost use Rattle.sgsn.specs.Requesting.{requested};
+ghost use Rattle.sgsn.specs.Requesting.{request_plan};
 
 use crate::peer::Peer;
 use crate::reply::Reply;
@@ -40,7 +40,8 @@ impl Sgsn {
         imsi: Imsi,
         request: Request,
     ) -> Result<(), Denial>
-        ensures { Does C.Carrier.puts (λ s. requested s imsi request) result self.old carrier.old self.new carrier.new }
+        ensures { Does C.Carrier.takes C.Carrier.puts (λ s. AtOnce (request_plan s imsi request))
+            result self.old carrier.old self.new carrier.new }
     {
         if self.sender.is_worn() {
             return Err(Denial::Worn);
@@ -78,7 +79,9 @@ impl Sgsn {
         imsi: Imsi,
         request: Request,
     ) -> Result<Reply, Denial>
-        ensures { Does C.Carrier.puts (λ s. answering (reply_to s.own imsi) (requested s imsi request)) result self.old carrier.old self.new carrier.new }
+        ensures { Does C.Carrier.takes C.Carrier.puts
+            (λ s. AtOnce (plan_with (λ u. reply_to s.own imsi) (λ d. d) (request_plan s imsi request)))
+            result self.old carrier.old self.new carrier.new }
     {
         let own = self.sender.own;
         self.open_request(carrier, imsi, request)?;

@@ -1,13 +1,31 @@
--- A call that hands out a value is denied as the same call is that hands out another.
-use Rattle.std.proofs.Common.{◌≡◌, ℕ, List, Ok, Err, Result, ap}
+-- What a call that hands out another answer, or another reason, does; and where any call leaves the end.
+use Rattle.std.proofs.Common.{◌≡◌, ℕ, List, [], ◌∷◌, Ok, Err, Result, sym, refl, ap, subst}
 use Rattle.elements.specs.declared.node.NodeNumber.{NodeNumber}
-use Rattle.station.specs.declared.denial.Denial.{Denial}
-use Rattle.station.specs.Calls.{Plan, answering, Does}
+use Rattle.station.specs.declared.sending.Outgoing.{Outgoing}
+use Rattle.station.specs.Calls.{Plan, plan_with, handed_on, after_in, sends_in, Done, Decides}
+use Rattle.station.specs.Sends.{Sent}
 
-pub denied_as : {V T U C : Type 0} (own : V → NodeNumber) (last : V → ℕ) (puts : C → List ℕ → C → Type 0) (p : Result (Plan T V) Denial) (x : U) (d : Denial) (s : V) (c : C) (t : V) (e : C) → Does own last puts p (Err d) s c t e → Does own last puts (answering x p) (Err d) s c t e
-denied_as own last puts (Err w) x d s c t e h =
-    let same : d ≡ w = cc (h.0) in
-    (ap Err same, h.1, h.2)
-denied_as own last puts (Ok p) x d s c t e h =
-    let clash : ⊥ = cc (h.0) in
-    absurd clash
+-- where nothing can be put, nothing is sent
+silent : (own : NodeNumber) (last : ℕ) (os : List Outgoing) → Sent (λ (c : Unit {0}) o d. ⊥) own last os tt tt → os ≡ []
+silent own last [] h = refl
+silent own last (o ∷ os) h = absurd h.0.1
+
+module _ {V : Type 0} (own : V → NodeNumber) (last : V → ℕ) {C : Type 0} (puts : C → List ℕ → C → Type 0) where
+  pub done_as : {T U E F : Type 0} (f : T → U) (g : E → F) (p : Result (Plan T V) E) (r : Result T E) (s : V) (c : C) (t : V) (d : C)
+      → Done own last puts p r s c t d → Done own last puts (plan_with f g p) (handed_on f g r) s c t d
+  done_as f g (Err e) r s c t d h = (ap (handed_on f g) h.0, h.1, h.2)
+  done_as f g (Ok p) r s c t d h = (ap (handed_on f g) h.0, h.1, h.2)
+
+  -- a call that has no carrier does the same beside one, and leaves it alone
+  pub decided_done : {T E : Type 0} (p : Result (Plan T V) E) (r : Result T E) (s t : V) (c : C) → Decides own last p r s t → Done own last puts p r s c t c
+  decided_done (Err e) r s t c h = (h.0, h.1, refl)
+  decided_done (Ok p) r s t c h = (h.0, h.1, subst (λ os. Sent puts (own s) (last s) os c c) (sym (silent (own s) (last s) p.sends h.2)) (refl, refl))
+
+  -- where the end is then, and what went out
+  pub after_done : {T E : Type 0} (p : Result (Plan T V) E) (r : Result T E) (s : V) (c : C) (t : V) (d : C) → Done own last puts p r s c t d → t ≡ after_in s p
+  after_done (Err e) r s c t d h = h.1
+  after_done (Ok p) r s c t d h = h.1
+
+  pub sent_done : {T E : Type 0} (p : Result (Plan T V) E) (r : Result T E) (s : V) (c : C) (t : V) (d : C) → Done own last puts p r s c t d → Sent puts (own s) (last s) (sends_in p) c d
+  sent_done (Err e) r s c t d h = (sym h.2, refl)
+  sent_done (Ok p) r s c t d h = h.2

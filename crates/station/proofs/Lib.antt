@@ -1,6 +1,6 @@
 pub mod Answering
 pub mod Chains
-pub mod EachTurn
+pub mod Times
 pub mod Fronts
 pub mod Questions
 pub mod Turns

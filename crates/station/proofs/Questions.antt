@@ -5,7 +5,7 @@ use Rattle.station.specs.declared.denial.Denial.TheVariants as denial
 use Rattle.station.specs.Calls.{ask, ask_for, unless_worn}
 use Rattle.station.specs.Sends.{is_worn}
 
-err_ok : {X : Type 0} (d : Denial) (p : X) → Err d ≡ Ok p → ⊥
+err_ok : {X E : Type 0} (d : E) (p : X) → Err d ≡ Ok p → ⊥
 err_ok d p e = cc
 
 pub granted : {X : Type 0} (b : Bool) (d : Denial) (others : Result X Denial) (p : X) → ask b d others ≡ Ok p → (b ≡ true) × (others ≡ Ok p)
@@ -19,5 +19,5 @@ found (Some x) d others p e = (x, refl, e)
 pub planned : {X : Type 0} (p q : X) → let r : Result X Denial = Ok p in r ≡ Ok q → p ≡ q
 planned p q e = cc
 
-pub unworn : {X : Type 0} (last : ℕ) (p q : X) → unless_worn last p ≡ Ok q → p ≡ q
-unworn last p q e = planned p q (granted (not (is_worn last)) denial.Worn _ q e).1
+pub unworn : {X : Type 0} (last : ℕ) (others : Result X Denial) (q : X) → unless_worn last others ≡ Ok q → others ≡ Ok q
+unworn last others q e = (granted (not (is_worn last)) denial.Worn others q e).1

@@ -1,8 +1,9 @@
 pub mod Calls
 pub mod Denials
+pub mod Few
 pub mod Marks
+pub mod Receiving
 pub mod Rows
 pub mod Sends
 pub mod Ticks
-pub mod Receiving
-pub mod Each
+pub mod Times

@@ -1,5 +1,5 @@
 -- One tick of what an end keeps of its peer: first the acknowledgement that is due, then the RESET's repeat.
-use Rattle.std.specs.Prelude.{◌≡◌, ℕ, ◌+◌, true, cond, List, [], ◌∷◌, ◌++◌, length, Some, None, Option}
+use Rattle.std.specs.Prelude.{◌≡◌, ℕ, ◌+◌, true, if◌then◌else◌, List, [], ◌∷◌, ◌++◌, length, Some, None, Option}
 use Rattle.elements.specs.declared.node.NodeNumber.{NodeNumber}
 use Rattle.frames.specs.Format.{lawful_nodes}
 use Rattle.messages.specs.declared.message.Message.TheVariants.{Reset, ResetAcknowledge}
@@ -28,7 +28,7 @@ abbrev pub due_sends : NodeNumber → NodeNumber → Row → List Outgoing
 due_sends own peer r = acknowledging own peer (due_now r)
 
 abbrev pub repeat_sends : NodeNumber → NodeNumber → Row → List Outgoing
-repeat_sends own peer r = cond (repeat_now r) (reset_to own peer ∷ []) []
+repeat_sends own peer r = if repeat_now r then reset_to own peer ∷ [] else []
 
 -- all that goes to the peer on this tick
 abbrev pub row_sends : NodeNumber → NodeNumber → Row → List Outgoing
@@ -36,7 +36,7 @@ row_sends own peer r = due_sends own peer r ++ repeat_sends own peer r
 
 -- the RESET's timer, where the last stamp is this one
 abbrev pub repeat_ticked : ℕ → Row → Row
-repeat_ticked last r = cond (repeat_now r) (repeated r (last + 1)) (reset_ticked r)
+repeat_ticked last r = if repeat_now r then repeated r (last + 1) else reset_ticked r
 
 -- the row after this tick, where the last stamp before it was this one
 abbrev pub row_ticked : NodeNumber → NodeNumber → ℕ → Row → Row

@@ -1,6 +1,7 @@
 // What an end keeps of its peer: recovery, the last RESET sent, and the acknowledgement that is due.
 ghost use Rattle.std.specs.Prelude.{◌≡◌};
-ghost use Rattle.station.specs.Rows.{new_row, lost_row, reset_taken, acknowledged, due_now, repeat_now, due_ticked, reset_ticked, repeated};
+ghost use Rattle.station.specs.Rows.{new_row, lost_row, reset_taken, acknowledged, due_now, repeat_now};
+ghost use Rattle.station.specs.Rows.{due_ticked, reset_ticked, repeated};
 
 // A RESET is repeated after so many ticks, so many times.
 const REPEAT_TICKS: u8 = 6;
@@ -42,99 +43,80 @@ impl Row {
         Row::default()
     }
 
-    // After a loss here, told by a RESET with this stamp.
-    pub fn lost(self, stamp: u32) -> Row
-        ensures { result ≡ lost_row self stamp }
+    // There was a loss here, of which a RESET with this stamp told.
+    pub(crate) fn begin_recovery(&mut self, stamp: u32)
+        ensures { self.new ≡ lost_row self.old stamp }
     {
-        let recovery = Recovery {
+        self.recovery = Some(Recovery {
             ticks: REPEAT_TICKS,
             repeats: REPEATS,
-        };
-        Row {
-            recovery: Some(recovery),
-            reset: Some(stamp),
-            ..self
-        }
+        });
+        self.reset = Some(stamp);
     }
 
-    // After a RESET with this stamp was taken. One taken while an acknowledgement is due starts that anew.
-    pub fn reset_taken(self, stamp: u32) -> Row
-        ensures { result ≡ reset_taken self stamp }
+    // A RESET with this stamp was taken. One taken while an acknowledgement is due starts that anew.
+    pub fn take_reset(&mut self, stamp: u32)
+        ensures { self.new ≡ reset_taken self.old stamp }
     {
-        let due = Due {
+        self.due = Some(Due {
             answers: stamp,
             ticks: ACKNOWLEDGE_TICKS,
-        };
-        Row {
-            due: Some(due),
-            ..self
-        }
+        });
     }
 
-    // After a RESET_ACKNOWLEDGE that answers this stamp: recovery ends only if it is the last RESET's.
-    pub fn acknowledged(self, answers: u32) -> Row
-        ensures { result ≡ acknowledged self answers }
+    // A RESET_ACKNOWLEDGE was taken that answers this stamp: recovery ends only if it is the last RESET's.
+    pub fn take_acknowledgement(&mut self, answers: u32)
+        ensures { self.new ≡ acknowledged self.old answers }
     {
         if Some(answers) == self.reset {
-            Row {
-                recovery: None,
-                ..self
-            }
-        } else {
-            self
+            self.recovery = None;
         }
     }
 
     // The stamp that is to be acknowledged on this tick.
-    pub fn due_now(self) -> Option<u32>
-        ensures { result ≡ due_now self }
+    pub(crate) fn due_now(&self) -> Option<u32>
+        ensures { result ≡ due_now self.now }
     {
         let due = self.due.filter(|due| due.ticks <= 1)?;
         Some(due.answers)
     }
 
     // Is the RESET to be repeated on this tick?
-    pub fn repeat_now(self) -> bool
-        ensures { result ≡ repeat_now self }
+    pub fn repeat_now(&self) -> bool
+        ensures { result ≡ repeat_now self.now }
     {
         self.recovery
             .is_some_and(|recovery| recovery.ticks == 1 && recovery.repeats > 0)
     }
 
     // One tick of the acknowledgement that is due.
-    pub fn due_ticked(self) -> Row
-        ensures { result ≡ due_ticked self }
+    pub(crate) fn tick_due(&mut self)
+        ensures { self.new ≡ due_ticked self.old }
     {
-        let due = self.due.filter(|due| due.ticks > 1).map(|due| Due {
+        self.due = self.due.filter(|due| due.ticks > 1).map(|due| Due {
             ticks: due.ticks - 1,
             ..due
         });
-        Row { due, ..self }
     }
 
     // One tick of the RESET's timer, where it is not repeated. A spent timer stays spent.
-    pub fn reset_ticked(self) -> Row
-        ensures { result ≡ reset_ticked self }
+    pub(crate) fn tick_reset(&mut self)
+        ensures { self.new ≡ reset_ticked self.old }
     {
-        let recovery = self.recovery.map(|recovery| Recovery {
+        self.recovery = self.recovery.map(|recovery| Recovery {
             ticks: recovery.ticks.saturating_sub(1),
             ..recovery
         });
-        Row { recovery, ..self }
     }
 
     // The RESET was repeated with this stamp.
-    pub fn repeated(self, stamp: u32) -> Row
-        ensures { result ≡ repeated self stamp }
+    pub(crate) fn note_repeat(&mut self, stamp: u32)
+        ensures { self.new ≡ repeated self.old stamp }
     {
-        let recovery = self.recovery.map(|recovery| Recovery {
+        self.recovery = self.recovery.map(|recovery| Recovery {
             ticks: REPEAT_TICKS,
             repeats: recovery.repeats.saturating_sub(1),
         });
-        Row {
-            recovery,
-            reset: Some(stamp),
-            ..self
-        }
+        self.reset = Some(stamp);
     }
 }

@@ -1,15 +1,14 @@
 -- Enrolling: the home cause of a held mobile changes, or a mobile gets a record where a place is free.
-use Rattle.std.specs.Prelude.{ℕ, not, [], Some, None, Option, Ok, Result}
+use Rattle.std.specs.Prelude.{ℕ, [], Some, None, Option, Ok, Result}
 use Rattle.imsi.specs.declared.Imsi.{Imsi}
 use Rattle.imsi.specs.Spelling.{lawful_imsi}
 use Rattle.directory.specs.Lookup.{at, fits, stored}
 use Rattle.station.specs.declared.denial.Denial.{Denial}
 use Rattle.station.specs.declared.denial.Denial.TheVariants as denial
-use Rattle.station.specs.Sends.{is_worn}
 use Rattle.vlr.specs.declared.record.Record.{Record}
 use Rattle.vlr.specs.Records.{new_record, with_home_cause}
 use Rattle.vlr.specs.State.{State, whose, with_records}
-use Rattle.station.specs.Calls.{Plan, plan, ask}
+use Rattle.station.specs.Calls.{Plan, plan, ask, unless_worn}
 
 -- this many places
 abbrev pub places : ℕ
@@ -25,9 +24,9 @@ abbrev pub with_enrolled : State → Imsi → ℕ → State
 with_enrolled s i c = with_records s (stored whose (enrolled i c (at whose s.records i)) s.records)
 
 -- the questions in their order
-abbrev pub enrolling : State → Imsi → ℕ → Result (Plan Unit State) Denial
-enrolling s i c =
-    ask (not (is_worn s.last)) denial.Worn
+abbrev pub enrol_plan : State → Imsi → ℕ → Result (Plan Unit State) Denial
+enrol_plan s i c =
+    unless_worn s.last
     (ask (lawful_imsi i.digits i.value) denial.UnlawfulImsi
     (ask (fits whose places s.records i) denial.NoPlace
     (Ok (plan (with_enrolled s i c) []))))

@@ -1,3 +1,4 @@
+pub mod Calls
 pub mod Delivering
 pub mod Enrolling
 pub mod Laws

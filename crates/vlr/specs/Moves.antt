@@ -1,5 +1,6 @@
 -- What a frame from the SGSN does to the record of the mobile that it is about, and what is answered.
-use Rattle.std.specs.Prelude.{ℕ, cond, Some, None, Option, ◌==◌}
+use Rattle.std.specs.Prelude.{ℕ, if◌then◌else◌, Some, None, Option, ◌==◌}
+use Rattle.std.specs.Option.{option_map}
 use Rattle.imsi.specs.declared.Imsi.{Imsi}
 use Rattle.elements.specs.declared.area.LocationArea.{LocationArea}
 use Rattle.elements.specs.declared.code.ImsiDetachType.{ImsiDetachType}
@@ -10,31 +11,30 @@ use Rattle.messages.specs.declared.message.Message.TheVariants.{PagingFailure, M
 use Rattle.vlr.specs.declared.record.Record.{Record}
 use Rattle.vlr.specs.Records.{confirmed, unmarked, imsi_detached}
 
--- the record after the message
-abbrev pub moved : SgsnNumber → Message → Record → Record
-moved n (LuRequest i u o a c) r = cond (r.home_cause == 0) (confirmed r n) (unmarked r)
-moved n (GprsDetachIndication i t) r = unmarked r
-moved n (PagingFailure i c) r = unmarked r
-moved n (MobileStatus i c) r = unmarked r
-moved n (ImsiDetachIndication i t) r = imsi_detached r
-moved n k r = r
+-- a mobile that is not enrolled is rejected so
+abbrev pub unknown_cause : ℕ
+unknown_cause = 2
 
--- why a location update is rejected: an unknown mobile, or the cause that its home gave; 0 where it is not
-abbrev pub cause_for : Option Record → ℕ
-cause_for None = 2
-cause_for (Some r) = r.home_cause
+abbrev pub reject : Imsi → ℕ → Option Message
+reject i c = Some (LuReject i (record { number = c }))
 
-abbrev pub update_answer : Imsi → LocationArea → ℕ → Message
-update_answer i a c = cond (c == 0) (LuAccept i a) (LuReject i (record { number = c }))
+-- a location update: the mobile's home lets it in, or gives the cause why not
+abbrev pub update_move : SgsnNumber → Imsi → LocationArea → Option Record → Option Record × Option Message
+update_move n i a None = (None, reject i unknown_cause)
+update_move n i a (Some r) =
+    if r.home_cause == 0 then (Some (confirmed r n), Some (LuAccept i a))
+    else (Some (unmarked r), reject i r.home_cause)
 
 -- an IMSI detach is acknowledged where its sender wants that
 abbrev pub detach_answer : Imsi → ImsiDetachType → Option Message
 detach_answer i Acknowledged = Some (ImsiDetachAcknowledge i Acknowledged)
 detach_answer i Unacknowledged = None
 
--- the message that answers, where the record before it was this, or none was held
-abbrev pub answer_to : Option Record → Message → Option Message
-answer_to r (LuRequest i u o a c) = Some (update_answer i a (cause_for r))
-answer_to r (GprsDetachIndication i t) = Some (GprsDetachAcknowledge i t)
-answer_to r (ImsiDetachIndication i t) = detach_answer i t
-answer_to r k = None
+-- what a message from this SGSN makes of the mobile's record, if one is held, and the message that answers it
+abbrev pub message_move : SgsnNumber → Message → Option Record → Option Record × Option Message
+message_move n (LuRequest i u o a c) r = update_move n i a r
+message_move n (GprsDetachIndication i t) r = (option_map unmarked r, Some (GprsDetachAcknowledge i t))
+message_move n (ImsiDetachIndication i t) r = (option_map imsi_detached r, detach_answer i t)
+message_move n (PagingFailure i c) r = (option_map unmarked r, None)
+message_move n (MobileStatus i c) r = (option_map unmarked r, None)
+message_move n m r = (r, None)

@@ -1,5 +1,5 @@
 -- A loss, and a tick, at a VLR.
-use Rattle.std.specs.Prelude.{◌+◌, List, [], ◌∷◌, map, length, Result}
+use Rattle.std.specs.Prelude.{◌+◌, List, [], ◌∷◌, map, length, Ok, Result}
 use Rattle.station.specs.declared.denial.Denial.{Denial}
 use Rattle.station.specs.declared.sending.Outgoing.{Outgoing}
 use Rattle.station.specs.Calls.{Plan, plan, unless_worn}
@@ -15,14 +15,14 @@ lost s = record s { last = s.last + 1; row = lost_row s.row (s.last + 1); record
 abbrev pub resets : State → List Outgoing
 resets s = reset_to s.own s.sgsn.node ∷ []
 
+abbrev pub lose_plan : State → Result (Plan Unit State) Denial
+lose_plan s = unless_worn s.last (Ok (plan (lost s) (resets s)))
+
 abbrev pub tick_sends : State → List Outgoing
 tick_sends s = row_sends s.own s.sgsn.node s.row
 
 abbrev pub ticked : State → State
 ticked s = record s { last = s.last + length (tick_sends s); row = row_ticked s.own s.sgsn.node s.last s.row }
 
-abbrev pub losing : State → Result (Plan Unit State) Denial
-losing s = unless_worn s.last (plan (lost s) (resets s))
-
-abbrev pub ticking : State → Result (Plan Unit State) Denial
-ticking s = unless_worn s.last (plan (ticked s) (tick_sends s))
+abbrev pub tick_plan : State → Result (Plan Unit State) Denial
+tick_plan s = unless_worn s.last (Ok (plan (ticked s) (tick_sends s)))
