@@ -6,7 +6,8 @@ use Rattle.elements.specs.declared.area.LocationArea.{LocationArea}
 use Rattle.elements.specs.declared.code.RejectCause.{RejectCause}
 use Rattle.elements.specs.Nodes.{lawful_node}
 use Rattle.messages.specs.declared.message.Message.{Message}
-use Rattle.messages.specs.declared.message.Message.TheVariants.{Paging, PagingFailure, MobileStatus, LuRequest, LuAccept, LuReject, Reset, ResetAcknowledge, GprsDetachIndication, GprsDetachAcknowledge, ImsiDetachIndication, ImsiDetachAcknowledge}
+use Rattle.messages.specs.declared.message.Message.TheVariants.{Paging, LuRequest, LuAccept, LuReject, Reset, ResetAcknowledge}
+use Rattle.messages.specs.Mobiles.{mobile_of}
 
 abbrev pub lawful_mobile : Imsi → Bool
 lawful_mobile i = lawful_imsi i.digits i.value
@@ -27,16 +28,17 @@ lawful_area a = length a.octets == 5
 abbrev pub lawful_reject : RejectCause → Bool
 lawful_reject c = nat_le 1 c.number
 
+-- the mobile that a message is about, if there is one
+abbrev pub lawful_if_any : Option Imsi → Bool
+lawful_if_any None = true
+lawful_if_any (Some i) = lawful_mobile i
+
+-- most messages ask only that of their mobile
 abbrev pub lawful_message : Message → Bool
 lawful_message (Paging i t c) = lawful_mobile i && (lawful_tmsi t && lawful_channel c)
-lawful_message (PagingFailure i c) = lawful_mobile i
-lawful_message (MobileStatus i c) = lawful_mobile i
 lawful_message (LuRequest i u o n c) = lawful_mobile i && (lawful_area o && lawful_area n)
 lawful_message (LuAccept i n) = lawful_mobile i && lawful_area n
 lawful_message (LuReject i c) = lawful_mobile i && lawful_reject c
 lawful_message (Reset e) = lawful_node e
 lawful_message (ResetAcknowledge e) = lawful_node e
-lawful_message (GprsDetachIndication i t) = lawful_mobile i
-lawful_message (GprsDetachAcknowledge i t) = lawful_mobile i
-lawful_message (ImsiDetachIndication i t) = lawful_mobile i
-lawful_message (ImsiDetachAcknowledge i t) = lawful_mobile i
+lawful_message m = lawful_if_any (mobile_of m)

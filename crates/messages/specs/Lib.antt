@@ -1,4 +1,5 @@
 pub mod Kinds
+pub mod Mobiles
 pub mod Lawful
 pub mod Places
 pub mod Spelling

@@ -5,22 +5,12 @@ use Rattle.elements.specs.Codes.{cause_octet, update_octet, class_octet, gprs_de
 use Rattle.elements.specs.Spelling.{imsi_element, octet_element, area_element, tmsi_element, channel_element}
 use Rattle.messages.specs.declared.message.Message.{Message}
 use Rattle.messages.specs.declared.message.Message.TheVariants.{Paging, PagingFailure, MobileStatus, LuRequest, LuAccept, LuReject, Reset, ResetAcknowledge, GprsDetachIndication, GprsDetachAcknowledge, ImsiDetachIndication, ImsiDetachAcknowledge}
+use Rattle.messages.specs.Kinds.{octet_of, kind_of}
 use Rattle.messages.specs.Lawful.{lawful_message}
 
--- the type octet of each message
+-- the type octet of a message
 abbrev pub type_of : Message → ℕ
-type_of (Paging i t c) = 0
-type_of (PagingFailure i c) = 1
-type_of (MobileStatus i c) = 2
-type_of (LuRequest i u o n c) = 6
-type_of (LuAccept i n) = 7
-type_of (LuReject i c) = 8
-type_of (Reset e) = 9
-type_of (ResetAcknowledge e) = 10
-type_of (GprsDetachIndication i t) = 14
-type_of (GprsDetachAcknowledge i t) = 15
-type_of (ImsiDetachIndication i t) = 17
-type_of (ImsiDetachAcknowledge i t) = 18
+type_of m = octet_of (kind_of m)
 
 -- what follows the type octet
 abbrev pub elements_of : Message → List ℕ

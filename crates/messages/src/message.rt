@@ -2,6 +2,7 @@
 ghost use Rattle.std.specs.Prelude.{◌≡◌};
 ghost use Rattle.messages.specs.Lawful.{lawful_message};
 ghost use Rattle.messages.specs.Kinds.{kind_of};
+ghost use Rattle.messages.specs.Mobiles.{mobile_of};
 ghost use Rattle.messages.specs.Spelling.{type_of};
 
 use crate::kind::MessageType;
@@ -93,6 +94,25 @@ impl Message {
         self.kind().octet()
     }
 
+    // The mobile that this is about; RESET and its acknowledgement are about none.
+    pub fn mobile(self) -> Option<Imsi>
+        ensures { result ≡ mobile_of self }
+    {
+        match self {
+            Message::Reset { .. } | Message::ResetAcknowledge { .. } => None,
+            Message::Paging { imsi, .. }
+            | Message::PagingFailure { imsi, .. }
+            | Message::MobileStatus { imsi, .. }
+            | Message::LuRequest { imsi, .. }
+            | Message::LuAccept { imsi, .. }
+            | Message::LuReject { imsi, .. }
+            | Message::GprsDetachIndication { imsi, .. }
+            | Message::GprsDetachAcknowledge { imsi, .. }
+            | Message::ImsiDetachIndication { imsi, .. }
+            | Message::ImsiDetachAcknowledge { imsi, .. } => Some(imsi),
+        }
+    }
+
     // Can this be written? Its IMSI, channel, reject cause and entity must be lawful; the rest always is.
     pub fn is_lawful(self) -> bool
         ensures { result ≡ lawful_message self }
@@ -103,14 +123,7 @@ impl Message {
             }
             Message::LuReject { imsi, cause } => imsi.is_lawful() && cause.number != 0,
             Message::Reset { entity } | Message::ResetAcknowledge { entity } => entity.is_lawful(),
-            Message::PagingFailure { imsi, .. }
-            | Message::MobileStatus { imsi, .. }
-            | Message::LuRequest { imsi, .. }
-            | Message::LuAccept { imsi, .. }
-            | Message::GprsDetachIndication { imsi, .. }
-            | Message::GprsDetachAcknowledge { imsi, .. }
-            | Message::ImsiDetachIndication { imsi, .. }
-            | Message::ImsiDetachAcknowledge { imsi, .. } => imsi.is_lawful(),
+            _ => self.mobile().is_none_or(|imsi| imsi.is_lawful()),
         }
     }
 }
