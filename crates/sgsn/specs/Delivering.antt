@@ -5,12 +5,12 @@ use Rattle.elements.specs.declared.node.NodeNumber.{NodeNumber}
 use Rattle.frames.specs.declared.frame.Frame.{Frame}
 use Rattle.messages.specs.declared.message.Message.{Message}
 use Rattle.messages.specs.declared.message.Message.TheVariants.{Paging, Reset, ResetAcknowledge}
+use Rattle.messages.specs.Mobiles.{mobile_of}
 use Rattle.station.specs.declared.receiving.Delivery.{Delivery}
 use Rattle.station.specs.declared.receiving.Delivery.TheVariants as order
 use Rattle.station.specs.declared.receiving.Refusal.{Refusal}
 use Rattle.station.specs.declared.sending.Outgoing.{Outgoing}
 use Rattle.station.specs.Calls.{Plan, Course, quietly, delivering}
-use Rattle.station.specs.Receiving.{mobile_in}
 use Rattle.station.specs.Sends.{Sent, outgoing_in}
 use Rattle.station.specs.Rows.{reset_taken, acknowledged}
 use Rattle.context.specs.declared.context.Context.{Context}
@@ -46,7 +46,7 @@ found s (Some i) = record_at s i
 
 -- the record of the mobile that a message is about
 abbrev pub noted : State → Message → Option Context
-noted s m = found s (mobile_in m)
+noted s m = found s (mobile_of m)
 
 -- any other message may be the answer that the mobile's record waits for
 abbrev pub answered_by : State → Frame → Peer → Option Context → State

@@ -20,7 +20,7 @@ use frames::frame::Frame;
 use imsi::Imsi;
 use messages::message::Message;
 use station::denial::Denial;
-use station::receiving::{Delivery, Refusal, mobile_in, take_frame};
+use station::receiving::{Delivery, Refusal, take_frame};
 
 impl Sgsn {
     // No record says any more that this VLR is sure.
@@ -75,7 +75,7 @@ impl Sgsn {
         ensures { state_of self.new
             ≡ answered_by (state_of self.old) frame peer (noted (state_of self.old) frame.message) }
     {
-        let Some(imsi) = mobile_in(frame.message) else {
+        let Some(imsi) = frame.message.mobile() else {
             return;
         };
         let Some(before) = self.record_of(imsi) else {

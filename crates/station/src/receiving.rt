@@ -1,7 +1,7 @@
 // How an end takes a frame.
 ghost use Rattle.std.specs.Prelude.{◌≡◌};
 ghost use Rattle.station.specs.declared.receiving.Refusal.TheVariants.{Denied, Faulty};
-ghost use Rattle.station.specs.Receiving.{LawfulIn, Received, is_from, mobile_in, names_sender};
+ghost use Rattle.station.specs.Receiving.{LawfulIn, Received, is_from, names_sender};
 
 use crate::denial::Denial;
 use carrier::carrier::Carrier;
@@ -56,25 +56,6 @@ pub fn take_frame<C: InOrder>(carrier: &mut C, node: NodeNumber) -> Option<Resul
 {
     let datagram = InOrder::take(carrier, node)?;
     Some(read_frame(datagram.as_slice()))
-}
-
-// The mobile that a message is about; RESET and its acknowledgement are about none.
-pub fn mobile_in(message: Message) -> Option<Imsi>
-    ensures { result ≡ mobile_in message }
-{
-    match message {
-        Message::Reset { .. } | Message::ResetAcknowledge { .. } => None,
-        Message::Paging { imsi, .. }
-        | Message::PagingFailure { imsi, .. }
-        | Message::MobileStatus { imsi, .. }
-        | Message::LuRequest { imsi, .. }
-        | Message::LuAccept { imsi, .. }
-        | Message::LuReject { imsi, .. }
-        | Message::GprsDetachIndication { imsi, .. }
-        | Message::GprsDetachAcknowledge { imsi, .. }
-        | Message::ImsiDetachIndication { imsi, .. }
-        | Message::ImsiDetachAcknowledge { imsi, .. } => Some(imsi),
-    }
 }
 
 // A RESET and its acknowledgement name their sender; no other message does.

@@ -9,7 +9,7 @@ use Rattle.frames.specs.declared.frame.Frame.{Frame}
 use Rattle.frames.specs.Format.{lawful_frame, lawful_nodes, lawful_stamp}
 use Rattle.directory.specs.Lookup.{at, fits, Stored}
 use Rattle.directory.proofs.Lookups.{at-whose}
-use Rattle.station.specs.Receiving.{mobile_in}
+use Rattle.messages.specs.Mobiles.{mobile_of}
 use Rattle.vlr.specs.declared.record.Record.{Record}
 use Rattle.vlr.specs.State.{State, whose}
 use Rattle.vlr.specs.Delivering.{found, noted}
@@ -20,7 +20,7 @@ its_record s (Some i) r e = (λ t. at whose s.records (at-whose whose s.records 
 
 pub placed : {X : Type 0} (s : State) (m : Message) (r new : Record) (n : ℕ) (ps qs : List Record) → noted s m ≡ Some r → whose new ≡ whose r → s.records ≡ take n ps → Stored whose n new ps qs None → X
 placed s m r new n ps qs e same is st =
-    let there : at whose (take n ps) (whose new) ≡ Some r = (λ t. at whose (sym is t) (same t)) ∙ its_record s (mobile_in m) r e in
+    let there : at whose (take n ps) (whose new) ≡ Some r = (λ t. at whose (sym is t) (same t)) ∙ its_record s (mobile_of m) r e in
     let fit : fits whose (length ps) (take n ps) (whose new) ≡ true = ap (λ o. is_some o || nat_lt (length (take n ps)) (length ps)) there in
     absurd (true≢false (sym fit ∙ st.0))
 

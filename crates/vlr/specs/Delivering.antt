@@ -4,13 +4,14 @@ use Rattle.imsi.specs.declared.Imsi.{Imsi}
 use Rattle.frames.specs.declared.frame.Frame.{Frame}
 use Rattle.messages.specs.declared.message.Message.{Message}
 use Rattle.messages.specs.declared.message.Message.TheVariants.{Reset, ResetAcknowledge}
+use Rattle.messages.specs.Mobiles.{mobile_of}
 use Rattle.directory.specs.Lookup.{at, stored}
 use Rattle.station.specs.declared.receiving.Delivery.{Delivery}
 use Rattle.station.specs.declared.receiving.Delivery.TheVariants as order
 use Rattle.station.specs.declared.receiving.Refusal.{Refusal}
 use Rattle.station.specs.declared.sending.Outgoing.{Outgoing}
 use Rattle.station.specs.Calls.{Plan, Course, quietly, delivering}
-use Rattle.station.specs.Receiving.{mobile_in, is_from}
+use Rattle.station.specs.Receiving.{is_from}
 use Rattle.station.specs.Rows.{reset_taken, acknowledged}
 use Rattle.vlr.specs.declared.record.Record.{Record}
 use Rattle.vlr.specs.Moves.{message_move}
@@ -24,7 +25,7 @@ found s (Some i) = at whose s.records i
 
 -- the record of the mobile that a message is about
 abbrev pub noted : State → Message → Option Record
-noted s m = found s (mobile_in m)
+noted s m = found s (mobile_of m)
 
 -- the records with this one in its mobile's place
 abbrev pub records_with : Option Record → List Record → List Record

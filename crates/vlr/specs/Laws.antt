@@ -8,11 +8,12 @@ use Rattle.imsi.specs.declared.Imsi.{Imsi}
 use Rattle.frames.specs.declared.frame.Frame.{Frame}
 use Rattle.messages.specs.declared.message.Message.{Message}
 use Rattle.messages.specs.declared.message.Message.TheVariants.{Reset}
+use Rattle.messages.specs.Mobiles.{mobile_of}
 use Rattle.directory.specs.Lookup.{at}
 use Rattle.directory.specs.Order.{same}
 use Rattle.station.specs.declared.denial.Denial.{Denial}
 use Rattle.station.specs.Calls.{Plan}
-use Rattle.station.specs.Receiving.{is_from, Received, mobile_in}
+use Rattle.station.specs.Receiving.{is_from, Received}
 use Rattle.station.specs.Sends.{is_worn}
 use Rattle.vlr.specs.declared.record.Record.{Record}
 use Rattle.vlr.specs.Records.{doubtful, doubtful_at}
@@ -54,7 +55,7 @@ of_mobile n k (Some i) m r = if_about n k i m r
 -- but a RESET makes every record doubtful that is sure of its sender
 abbrev pub by_message : SgsnNumber → Message → Imsi → Option Record → Option Record
 by_message n (Reset e) m r = option_map (doubtful_at n) r
-by_message n k m r = of_mobile n k (mobile_in k) m r
+by_message n k m r = of_mobile n k (mobile_of k) m r
 
 -- what was taken, if it is a frame of the SGSN's
 abbrev pub by_frame : State → Option (Result Frame Fault) → Imsi → Option Record → Option Record

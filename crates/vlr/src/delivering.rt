@@ -16,7 +16,7 @@ use directory::table::{change_each, look, store};
 use frames::frame::Frame;
 use messages::message::Message;
 use station::denial::Denial;
-use station::receiving::{Delivery, Refusal, is_from, mobile_in, take_frame};
+use station::receiving::{Delivery, Refusal, is_from, take_frame};
 use station::sending::Outgoing;
 
 impl Vlr {
@@ -24,7 +24,7 @@ impl Vlr {
     fn record_of(&self, message: Message) -> Option<Record>
         ensures { result ≡ noted (state_of self.now) message }
     {
-        look(&self.places, self.held, mobile_in(message)?)
+        look(&self.places, self.held, message.mobile()?)
     }
 
     // Keeps what the message makes of the record of its mobile.
