@@ -1,13 +1,15 @@
 // Datagrams made and looked at.
 ghost use Rattle.std.specs.Prelude.{◌≡◌, ◌≤◌, length, take, IfErr};
 ghost use Rattle.std.specs.Result.{result_ok};
+ghost use Rattle.frames.specs.Format.{header_in};
 ghost use Rattle.carrier.specs.Datagrams.{octets_in, travelling, carried};
 ghost use Rattle.carrier.specs.Octets.{source_of, destination_of, stamp_of, route_of};
 
 use crate::datagram::{Datagram, WrongLength};
 use crate::route::Route;
 use elements::node::NodeNumber;
-use elements::reader::number_at;
+use frames::frame::Header;
+use frames::reading::header_in;
 
 // What is shorter or longer is no frame, and no carrier takes it.
 const SHORTEST: usize = 11;
@@ -50,20 +52,25 @@ impl Datagram {
         &self.octets[0..self.len]
     }
 
+    // What the octets say in front, lawful or not.
+    fn header(&self) -> Header
+        ensures { result ≡ header_in (octets_in self.now) }
+    {
+        header_in(self.as_slice()).unwrap()
+    }
+
     // The node that the octets name as their source, lawful or not.
     pub fn source(&self) -> NodeNumber
         ensures { result ≡ source_of (octets_in self.now) }
     {
-        let octets = self.as_slice();
-        NodeNumber { number: octets[0] }
+        self.header().source
     }
 
     // The node that the octets name as their destination, lawful or not.
     pub fn destination(&self) -> NodeNumber
         ensures { result ≡ destination_of (octets_in self.now) }
     {
-        let octets = self.as_slice();
-        NodeNumber { number: octets[1] }
+        self.header().destination
     }
 
     pub fn route(&self) -> Route
@@ -78,6 +85,6 @@ impl Datagram {
     pub fn stamp(&self) -> u32
         ensures { result ≡ stamp_of (octets_in self.now) }
     {
-        number_at(self.as_slice(), 2).unwrap()
+        self.header().stamp
     }
 }

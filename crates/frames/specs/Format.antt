@@ -1,5 +1,5 @@
 -- Frames: ten octets of nodes and stamps, then one message to the end.
-use Rattle.std.specs.Prelude.{◌≡◌, ℕ, Bool, true, cond, not, ◌&&◌, List, ◌∷◌, ◌++◌, length, Ok, Result, ◌==◌, nat_le, nat_lt, slice_index}
+use Rattle.std.specs.Prelude.{◌≡◌, ℕ, Bool, true, if◌then◌else◌, not, ◌&&◌, List, ◌∷◌, ◌++◌, length, Ok, Result, ◌==◌, nat_le, nat_lt, slice_index}
 use Rattle.elements.specs.declared.fault.Fault.{Fault}
 use Rattle.elements.specs.declared.fault.FaultKind.TheVariants as kind
 use Rattle.elements.specs.declared.node.NodeNumber.{NodeNumber}
@@ -43,15 +43,21 @@ node_at s at = record { number = slice_index s at }
 abbrev pub header_in : List ℕ → Header
 header_in s = record { source = node_at s 0; destination = node_at s 1; stamp = number_at s 2; answers = number_at s 6 }
 
--- the first fault in front of the message, if there is one, in the order of the octets
+-- a header, or its first fault in the order of the octets
+abbrev pub lawful_header : Header → Result Header Fault
+lawful_header h =
+    if not (lawful_node h.source) then wrong kind.Nodes 0
+    else if not (lawful_node h.destination) then wrong kind.Nodes 1
+    else if same_node h.source h.destination then wrong kind.Nodes 0
+    else if h.stamp == 0 then wrong kind.Stamp 2
+    else Ok h
+
+-- the first fault in front of the message, if there is one
 abbrev pub header_read : List ℕ → Result Header Fault
 header_read s =
-    cond (nat_lt (length s) 11) (wrong kind.FrameSize (length s))
-    (cond (nat_lt 64 (length s)) (wrong kind.FrameSize 64)
-    (cond (not (lawful_node (node_at s 0))) (wrong kind.Nodes 0)
-    (cond (not (lawful_node (node_at s 1))) (wrong kind.Nodes 1)
-    (cond (same_node (node_at s 0) (node_at s 1)) (wrong kind.Nodes 0)
-    (cond (number_at s 2 == 0) (wrong kind.Stamp 2) (Ok (header_in s)))))))
+    if nat_lt (length s) 11 then wrong kind.FrameSize (length s)
+    else if nat_lt 64 (length s) then wrong kind.FrameSize 64
+    else lawful_header (header_in s)
 
 abbrev pub framed : Header → Message → Frame
 framed h m = record { source = h.source; destination = h.destination; stamp = h.stamp; answers = h.answers; message = m }

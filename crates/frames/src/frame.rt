@@ -15,7 +15,8 @@ pub struct Frame {
 }
 
 // What stands in front of the message, while that is not read yet.
-// Not a part of `Frame`, whose nodes and stamps are named all over: only the reader has them without a message.
+// Not a part of `Frame`, whose nodes and stamps are named all over: only the reader and carriers have them without a
+// message.
 #[derive(Clone, Copy, Debug, PartialEq, Eq)]
 pub struct Header {
     pub source: NodeNumber,

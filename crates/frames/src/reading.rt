@@ -1,6 +1,6 @@
 // Octets to frames.
-ghost use Rattle.std.specs.Prelude.{◌≡◌};
-ghost use Rattle.frames.specs.Format.{header_read, frame_in, ReadsExactly, AlwaysExactly};
+ghost use Rattle.std.specs.Prelude.{◌≡◌, ◌<◌, length, MatchOption};
+ghost use Rattle.frames.specs.Format.{header_in, header_read, frame_in, ReadsExactly, AlwaysExactly};
 
 use crate::frame::{Frame, Header};
 use elements::fault::{Fault, FaultKind};
@@ -13,6 +13,21 @@ const SHORTEST: usize = 11;
 
 const LONGEST: usize = 64;
 
+// What stands in front of the message, lawful or not, if there are so many octets.
+pub fn header_in(octets: &[u8]) -> Option<Header>
+    ensures { MatchOption result (length octets.now < 10) (λ h. h ≡ header_in octets.now) }
+{
+    if octets.len() < IN_FRAME {
+        return None;
+    }
+    Some(Header {
+        source: NodeNumber { number: octets[0] },
+        destination: NodeNumber { number: octets[1] },
+        stamp: number_at(octets, 2).unwrap(),
+        answers: number_at(octets, 6).unwrap(),
+    })
+}
+
 // Nodes and stamps, or the first fault among them.
 fn header(octets: &[u8]) -> Result<Header, Fault>
     ensures { result ≡ header_read octets.now }
@@ -24,28 +39,20 @@ fn header(octets: &[u8]) -> Result<Header, Fault>
     if size > LONGEST {
         return Err(FaultKind::FrameSize.at(LONGEST));
     }
-    let source = NodeNumber { number: octets[0] };
-    let destination = NodeNumber { number: octets[1] };
-    if !source.is_lawful() {
+    let header = header_in(octets).unwrap();
+    if !header.source.is_lawful() {
         return Err(FaultKind::Nodes.at(0));
     }
-    if !destination.is_lawful() {
+    if !header.destination.is_lawful() {
         return Err(FaultKind::Nodes.at(1));
     }
-    if source == destination {
+    if header.source == header.destination {
         return Err(FaultKind::Nodes.at(0));
     }
-    let stamp = number_at(octets, 2).unwrap();
-    if stamp == 0 {
+    if header.stamp == 0 {
         return Err(FaultKind::Stamp.at(2));
     }
-    let answers = number_at(octets, 6).unwrap();
-    Ok(Header {
-        source,
-        destination,
-        stamp,
-        answers,
-    })
+    Ok(header)
 }
 
 // Does nothing: whatever is so read is exactly what the octets spell.
