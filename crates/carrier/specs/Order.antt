@@ -1,5 +1,5 @@
 -- The latest stamp given from each node to each: what a put and a take do to it.
-use Rattle.std.specs.Prelude.{◌≡◌, ℕ, ◌<◌, List, [], Some, None, Option, ◌≢◌}
+use Rattle.std.specs.Prelude.{◌≡◌, ℕ, ◌<◌, List, Some, None, Option, ◌≢◌}
 use Rattle.elements.specs.declared.node.NodeNumber.{NodeNumber}
 use Rattle.carrier.specs.Octets.{source_of, destination_of, stamp_of}
 
@@ -18,6 +18,6 @@ Moves before (Some f) after =
     × (after (source_of f) (destination_of f) ≡ stamp_of f)
     × ((a b : NodeNumber) → (a ≡ source_of f → b ≢ destination_of f) → after a b ≡ before a b)
 
--- nothing waits, and nothing was given
-abbrev pub Empty : List (List ℕ) → Stamps → Type 0
-Empty waiting latest = (waiting ≡ []) × ((a b : NodeNumber) → latest a b ≡ 0)
+-- nothing was given, from any node to any
+abbrev pub NoneGiven : Stamps → Type 0
+NoneGiven latest = (a b : NodeNumber) → latest a b ≡ 0

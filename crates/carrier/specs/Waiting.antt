@@ -7,6 +7,10 @@ abbrev pub In : List ℕ → List (List ℕ) → Type 0
 In x [] = ⊥
 In x (y ∷ ys) = (x ≡ y) ⊎ In x ys
 
+-- nothing waits
+abbrev pub Empty : List (List ℕ) → Type 0
+Empty waiting = waiting ≡ []
+
 -- 11 to 64 octets
 abbrev pub Sized : List ℕ → Type 0
 Sized f = (11 ≤ length f) × (length f ≤ 64)

@@ -2,10 +2,10 @@
 ghost use Rattle.std.specs.Prelude.{◌≡◌, []};
 ghost use Rattle.std.proofs.Common.{sym, subst, ap, ⊎_elim};
 ghost use Rattle.carrier.specs.Datagrams.{octets_in, carried};
-ghost use Rattle.carrier.specs.Order.{Empty};
+ghost use Rattle.carrier.specs.Order.{NoneGiven};
 ghost use Rattle.gate.specs.Passing.{Gated, Passed};
 ghost use Rattle.gate.specs.Rows.{rows_of, last_given_in};
-ghost use Rattle.carrier.specs.Waiting.{Gives};
+ghost use Rattle.carrier.specs.Waiting.{Empty, Gives};
 ghost use Rattle.gate.specs.Moving.{passed, moved};
 
 use crate::pairs::Pairs;
@@ -27,7 +27,8 @@ impl<C: Carrier> Gate<C> {
     pub fn new(below: C) -> Gate<C>
         ensures below { result.below ≡ below }
         ensures pairs { rows_of result.pairs ≡ [] }
-        ensures empty { C.Carrier.waiting below ≡ [] → Empty (C.Carrier.waiting result.below) (last_given_in (rows_of result.pairs)) }
+        ensures empty { Empty (C.Carrier.waiting below) → Empty (C.Carrier.waiting result.below) }
+        ensures stamps { NoneGiven (last_given_in (rows_of result.pairs)) }
     {
         let pairs = Pairs::new();
         Gate { below, pairs }

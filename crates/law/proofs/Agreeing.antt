@@ -68,5 +68,5 @@ agreed s vs ws ls S m n sure = backed s vs ws ls S m n sure (vlr_named n vs) ref
 
 -- and so they do after any calls, over any carrier that gives frames in order
 pub agreed_after : {C : Type 0} (waiting : C → List (List ℕ)) (latest : C → Stamps) (takes : C → NodeNumber → Option (List ℕ) → C → Type 0) (puts : C → List ℕ → C → Type 0) → Carries waiting latest takes puts
-    → {es : Events} {x : View C} → Came waiting latest takes puts es x → Agreed x.sgsn x.vlrs
+    → {es : Events} {x : View C} → Came waiting takes puts es x → Agreed x.sgsn x.vlrs
 agreed_after waiting latest takes puts K {x = x} h = agreed x.sgsn x.vlrs (waiting x.carrier) (latest x.carrier) (calls.sound waiting latest takes puts K h)

@@ -210,10 +210,10 @@ module _ {C : Type 0} (waiting : C → List (List ℕ)) (latest : C → Stamps) 
       (vlr_does vlr_recover.ticking (λ s v ws ls P p e. subst (λ u. Goes s v u.after ws ls (Sends v.own v.last u.sends s.own)) (unworn v.last (plan (vlr_recover.ticked v) (vlr_recover.tick_sends v)) p e) (vlr_ticks (repeat_now v.row) s v ws ls P refl)) a) S D
 
   -- a new site
-  made : (x : View C) → New waiting latest x → StandsAt x
+  made : (x : View C) → New waiting x → StandsAt x
   made x N = same_site _ x.sgsn _ x.vlrs x.carrier x.carrier N.sgsn N.vlrs refl (started N.number N.numbers (waiting x.carrier) (latest x.carrier) N.empty (apart_reordered N.number.node N.given N.numbers N.risen.0 (lawful_apart N.number N.given N.lawful)))
 
   -- what should stand stands after any calls
-  pub sound : {es : Events} {x : View C} → Came waiting latest takes puts es x → StandsAt x
+  pub sound : {es : Events} {x : View C} → Came waiting takes puts es x → StandsAt x
   sound (Came.new {x = x} N) = made x N
   sound (Came.next {c = c} {a = a} {x = x} {y = y} h D) = step c a x y (sound h) D

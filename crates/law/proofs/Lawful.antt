@@ -15,9 +15,9 @@ use Rattle.law.proofs.Once.{once}
 use Rattle.law.proofs.Replies.{replies, timely}
 
 module _ {C : Type 0} (waiting : C → List (List ℕ)) (latest : C → Stamps) (takes : C → NodeNumber → Option (List ℕ) → C → Type 0) (puts : C → List ℕ → C → Type 0) (K : Carries waiting latest takes puts) where
-  pub law_after : (es : Events) (x : View C) → Came waiting latest takes puts es x → Law es x
+  pub law_after : (es : Events) (x : View C) → Came waiting takes puts es x → Law es x
   law_after es x came =
-      let owed = replies takes puts waiting latest es x came in
+      let owed = replies takes puts waiting es x came in
       record {
         agreed = agreed_after waiting latest takes puts K came;
         balanced = owed.balanced;
@@ -27,5 +27,5 @@ module _ {C : Type 0} (waiting : C → List (List ℕ)) (latest : C → Stamps) 
       }
 
   -- and so after one call more
-  pub law_step : (c : Call) (a : Answer) (es : Events) (x y : View C) → Came waiting latest takes puts es x → Step takes puts c a x y → Law ((c, a) ∷ es) y
+  pub law_step : (c : Call) (a : Answer) (es : Events) (x y : View C) → Came waiting takes puts es x → Step takes puts c a x y → Law ((c, a) ∷ es) y
   law_step c a es x y came step = law_after ((c, a) ∷ es) y (next came step)

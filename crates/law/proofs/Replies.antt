@@ -10,7 +10,6 @@ use Rattle.elements.specs.Nodes.{same_node}
 use Rattle.messages.specs.declared.message.Message.{Message}
 use Rattle.messages.specs.declared.message.Message.TheVariants.{Paging, PagingFailure, MobileStatus, LuRequest, LuAccept, LuReject, Reset, ResetAcknowledge, GprsDetachIndication, GprsDetachAcknowledge, ImsiDetachIndication, ImsiDetachAcknowledge}
 use Rattle.frames.specs.declared.frame.Frame.{Frame}
-use Rattle.carrier.specs.Order.{Stamps}
 use Rattle.directory.specs.Lookup.{at, stored}
 use Rattle.directory.specs.Order.{same}
 use Rattle.directory.proofs.Lookups.{at-whose}
@@ -290,6 +289,6 @@ module _ {C : Type 0} (takes : C → NodeNumber → Option (List ℕ) → C → 
       (λ here m. does (call.Tick n) a es (recovering.ticking x.sgsn) x y m (λ p e made. subst (λ u. Replies ((call.Tick n, a) ∷ es) u.after) (unworn x.sgsn.last (plan (recovering.ticked x.sgsn) (recovering.tick_sends x.sgsn)) p e) (ticked_one n a es x.sgsn here made R)) R)
       (λ here still. quiet (call.Tick n) a es x.sgsn y.sgsn refl refl (ap (λ b. b && accepted a) here) (kept_still x.sgsn y.sgsn still) R)
 
-  pub replies : (waiting : C → List (List ℕ)) (latest : C → Stamps) (es : Events) (x : View C) → Came waiting latest takes puts es x → Replies es x.sgsn
-  replies waiting latest [] x (new N) = replies_new x.sgsn (ap (λ u. u.records) N.sgsn)
-  replies waiting latest ((c, a) ∷ es) x (next {x = before} came S) = replies_step c a es before x S (replies waiting latest es before came)
+  pub replies : (waiting : C → List (List ℕ)) (es : Events) (x : View C) → Came waiting takes puts es x → Replies es x.sgsn
+  replies waiting [] x (new N) = replies_new x.sgsn (ap (λ u. u.records) N.sgsn)
+  replies waiting ((c, a) ∷ es) x (next {x = before} came S) = replies_step c a es before x S (replies waiting es before came)

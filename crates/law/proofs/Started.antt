@@ -8,8 +8,8 @@ use Rattle.elements.specs.declared.node.VlrNumber.{VlrNumber}
 use Rattle.elements.specs.Nodes.{same_node}
 use Rattle.frames.specs.declared.frame.Frame.{Frame}
 use Rattle.frames.specs.Format.{frame_octets}
-use Rattle.carrier.specs.Order.{Stamps, Empty}
-use Rattle.carrier.specs.Waiting.{In}
+use Rattle.carrier.specs.Order.{Stamps}
+use Rattle.carrier.specs.Waiting.{Empty, In}
 use Rattle.sgsn.specs.declared.peer.Peer.{Peer}
 use Rattle.sgsn.specs.Making.{new_peer, new_state}
 use Rattle.vlr.specs.Making as vlr_made
@@ -37,10 +37,10 @@ module _ (number : SgsnNumber) where
   numbers_made [] = refl
   numbers_made (k ∷ ks) = ap (λ l. k ∷ l) (numbers_made ks)
 
-  module _ (numbers : List VlrNumber) (ws : List (List ℕ)) (ls : Stamps) (E : Empty ws ls) where
+  module _ (numbers : List VlrNumber) (ws : List (List ℕ)) (ls : Stamps) (E : Empty ws) where
     -- no frame waits
     nothing : (a b : NodeNumber) (f : Frame) → Live ws ls a b f → ⊥
-    nothing a b f l = subst (In (frame_octets f)) E.0 l.waits
+    nothing a b f l = subst (In (frame_octets f)) E l.waits
 
     new_pair : (k : VlrNumber) → Pair (new_state number numbers) (vlr_made.new_state k number) ws ls
     new_pair k =
@@ -72,7 +72,7 @@ module _ (number : SgsnNumber) where
     started differ =
         record {
           fit = record { fits = refl; rise = refl };
-          spelt = λ x i. absurd (subst (In x) E.0 i);
+          spelt = λ x i. absurd (subst (In x) E i);
           numbers = peers_made numbers ∙ sym (numbers_made numbers);
           differ = ap (apart number.node) (numbers_made numbers) ∙ differ;
           each = new_each numbers;

@@ -5,7 +5,7 @@ use Rattle.elements.specs.declared.node.NodeNumber.{NodeNumber}
 use Rattle.elements.specs.declared.node.SgsnNumber.{SgsnNumber}
 use Rattle.elements.specs.declared.node.VlrNumber.{VlrNumber}
 use Rattle.elements.specs.Nodes.{same_node}
-use Rattle.carrier.specs.Order.{Stamps, Empty}
+use Rattle.carrier.specs.Waiting.{Empty}
 use Rattle.station.specs.declared.receiving.Refusal.{Refusal}
 use Rattle.station.specs.Calls.{Does}
 use Rattle.sgsn.specs.declared.call.SgsnCall.{SgsnCall}
@@ -73,7 +73,7 @@ module _ {C : Type 0} (takes : C → NodeNumber → Option (List ℕ) → C → 
   Step (call.Vlr n k) a x y = AtVlr (is_vlr n x.vlrs) n k a x y
 
 -- a new SGSN, the VLRs that it was made with, each made for it, in rising number, and an empty carrier
-pub record New {C : Type 0} (waiting : C → List (List ℕ)) (latest : C → Stamps) (x : View C) : Type 0 where
+pub record New {C : Type 0} (waiting : C → List (List ℕ)) (x : View C) : Type 0 where
   pub number : SgsnNumber
   pub given : List VlrNumber
   pub numbers : List VlrNumber
@@ -81,13 +81,13 @@ pub record New {C : Type 0} (waiting : C → List (List ℕ)) (latest : C → St
   pub risen : sgsn_made.Risen given numbers
   pub sgsn : x.sgsn ≡ sgsn_made.new_state number numbers
   pub vlrs : x.vlrs ≡ map (λ n. vlr_made.new_state n number) numbers
-  pub empty : Empty (waiting x.carrier) (latest x.carrier)
+  pub empty : Empty (waiting x.carrier)
 
 -- calls with their answers, the last one first
 abbrev pub Events : Type 0
 Events = List (Call × Answer)
 
 -- The site came to be so from a new one by these calls.
-pub data Came {C : Type 0} (waiting : C → List (List ℕ)) (latest : C → Stamps) (takes : C → NodeNumber → Option (List ℕ) → C → Type 0) (puts : C → List ℕ → C → Type 0) : Events → View C → Type 0 where
-  new : {x : View C} → New waiting latest x → Came waiting latest takes puts [] x
-  next : {c : Call} {a : Answer} {es : Events} {x y : View C} → Came waiting latest takes puts es x → Step takes puts c a x y → Came waiting latest takes puts ((c, a) ∷ es) y
+pub data Came {C : Type 0} (waiting : C → List (List ℕ)) (takes : C → NodeNumber → Option (List ℕ) → C → Type 0) (puts : C → List ℕ → C → Type 0) : Events → View C → Type 0 where
+  new : {x : View C} → New waiting x → Came waiting takes puts [] x
+  next : {c : Call} {a : Answer} {es : Events} {x y : View C} → Came waiting takes puts es x → Step takes puts c a x y → Came waiting takes puts ((c, a) ∷ es) y

@@ -1,11 +1,11 @@
 // How a mailbox carries.
 ghost use Rattle.std.specs.Prelude.{◌≡◌, []};
 ghost use Rattle.std.proofs.Common.{sym, subst, ap};
-ghost use Rattle.carrier.specs.Order.{Empty};
+ghost use Rattle.carrier.specs.Order.{NoneGiven};
 ghost use Rattle.mailbox.specs.Model.{slots_of, Puts, Takes};
 ghost use Rattle.mailbox.specs.Slots.{is_of, waits_for, place, held_in, last_given_in, noted};
 ghost use Rattle.mailbox.specs.Waiting;
-ghost use Rattle.carrier.specs.Waiting.{Gives, Leaves};
+ghost use Rattle.carrier.specs.Waiting.{Empty, Gives, Leaves};
 ghost use Rattle.mailbox.specs.Order;
 
 use crate::mailbox::Mailbox;
@@ -21,7 +21,8 @@ use elements::node::NodeNumber;
 impl Mailbox {
     pub fn new() -> Mailbox
         ensures slots { slots_of result ≡ [] }
-        ensures empty { Empty (held_in (slots_of result)) (last_given_in (slots_of result)) }
+        ensures empty { Empty (held_in (slots_of result)) }
+        ensures stamps { NoneGiven (last_given_in (slots_of result)) }
     {
         Mailbox {
             slots: ArrayVec::new(),

@@ -43,7 +43,7 @@ module _ {C : Type 0} (takes : C → NodeNumber → Option (List ℕ) → C → 
   pub settles : (p : Reply) (r : Result Verdict (Denial × Reply)) (x y : View C) → r ≡ or_handed_back p (settling_reply x.sgsn p) → y.sgsn ≡ after_settling x.sgsn (owed_to p) (settling_reply x.sgsn p) → y.vlrs ≡ x.vlrs → y.carrier ≡ x.carrier → Settles takes puts p r x y
   settles p r x y value state vlrs carrier = settles_as (is_its p x) p r x y (settling_reply x.sgsn p) refl value state vlrs carrier
 
-  module _ (waiting : C → List (List ℕ)) (latest : C → Stamps) (K : Carries waiting latest takes puts) (es : Events) (x y : View C) (came : Came waiting latest takes puts es x) where
+  module _ (waiting : C → List (List ℕ)) (latest : C → Stamps) (K : Carries waiting latest takes puts) (es : Events) (x y : View C) (came : Came waiting takes puts es x) where
     settled_lawfully : (b : Bool) (p : Reply) (r : Result Verdict (Denial × Reply)) → SettlesAs takes puts b p r x y → Law (with_settling b p r es) y
     settled_lawfully true p r s = law_step waiting latest takes puts K _ _ es x y came s
     settled_lawfully false p r s = subst (Law es) (sym s.1) (law_after waiting latest takes puts K es x came)

@@ -1,7 +1,6 @@
 -- Registers made for the numbers of rows.
 use Rattle.std.proofs.Common.{◌≡◌, ℕ, true, List, [], ◌∷◌, map, Ok, Err, Result, sym, refl, ap, subst}
 use Rattle.std.specs.Result.{IsErrAnd}
-use Rattle.carrier.specs.Order.{Stamps}
 use Rattle.sgsn.specs.Making.{lawful_numbers}
 use Rattle.site.specs.declared.site.Site.{Site}
 use Rattle.elements.specs.declared.node.SgsnNumber.{SgsnNumber}
@@ -16,7 +15,7 @@ by_numbers f [] = refl
 by_numbers f (p ∷ ps) = ap (λ l. f p.vlr ∷ l) (by_numbers f ps)
 
 -- where only memory can fail
-pub refused : {C : Type 0} (waiting : C → List (List ℕ)) (latest : C → Stamps) (n : SgsnNumber) (vs : List VlrNumber) (c : C) (r : Result (Site C) SiteError) (e : SiteError) → IsErrAnd r (λ y. y ≡ e) → IsMemory e → lawful_numbers n vs ≡ true → SiteMade waiting latest n vs c r
-refused waiting latest n vs c (Ok x) e a m l = absurd a
-refused waiting latest n vs c (Err y) (Denied d) a m l = absurd m
-refused waiting latest n vs c (Err y) (Memory f) a m l = subst (λ z. SiteMade waiting latest n vs c (Err z)) (sym a) l
+pub refused : {C : Type 0} (waiting : C → List (List ℕ)) (n : SgsnNumber) (vs : List VlrNumber) (c : C) (r : Result (Site C) SiteError) (e : SiteError) → IsErrAnd r (λ y. y ≡ e) → IsMemory e → lawful_numbers n vs ≡ true → SiteMade waiting n vs c r
+refused waiting n vs c (Ok x) e a m l = absurd a
+refused waiting n vs c (Err y) (Denied d) a m l = absurd m
+refused waiting n vs c (Err y) (Memory f) a m l = subst (λ z. SiteMade waiting n vs c (Err z)) (sym a) l

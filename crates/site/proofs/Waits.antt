@@ -31,7 +31,7 @@ use Rattle.site.proofs.ByHand.{settles}
 module _ {C : Type 0} (waiting : C → List (List ℕ)) (latest : C → Stamps) (takes : C → NodeNumber → Option (List ℕ) → C → Type 0) (puts : C → List ℕ → C → Type 0) where
   -- some calls led here
   abbrev Reached : View C → Type 0
-  Reached x = (es : Events) × Came waiting latest takes puts es x
+  Reached x = (es : Events) × Came waiting takes puts es x
 
   -- a tick that is not denied
   tick_made : (s : sgsn.State) (b : Bool) (c d : C) → not (is_worn s.last) ≡ b → b ≡ true → Sent puts s.own s.last (tick_sends s) c d → Does sgsn.own_of sgsn.last_of puts (ask b denial.Worn (Ok (plan (ticked s) (tick_sends s)))) (Ok (tt {0})) s c (ticked s) d
@@ -60,8 +60,8 @@ module _ {C : Type 0} (waiting : C → List (List ℕ)) (latest : C → Stamps) 
   settling_reaches true p r x y s h = (_, next {c = call.Settle (owed_to p)} {a = settled_by r} h.1 s)
   settling_reaches false p r x y s h = subst Reached (sym s.1) h
 
-  pub in_time : Carries waiting latest takes puts → (p : Reply) (r : Result Verdict (Denial × Reply)) (s t : sgsn.State) (vs : List vlr.State) (c e : C) → SettledInTime puts p r s c t e → (es : Events) → Came waiting latest takes puts es (record { sgsn = s; vlrs = vs; carrier = c })
-      → (fs : Events) × Came waiting latest takes puts fs (record { sgsn = t; vlrs = vs; carrier = e }) × Law fs (record { sgsn = t; vlrs = vs; carrier = e })
+  pub in_time : Carries waiting latest takes puts → (p : Reply) (r : Result Verdict (Denial × Reply)) (s t : sgsn.State) (vs : List vlr.State) (c e : C) → SettledInTime puts p r s c t e → (es : Events) → Came waiting takes puts es (record { sgsn = s; vlrs = vs; carrier = c })
+      → (fs : Events) × Came waiting takes puts fs (record { sgsn = t; vlrs = vs; carrier = e }) × Law fs (record { sgsn = t; vlrs = vs; carrier = e })
   in_time K p r s t vs c e w es came =
       let x : View C = record { sgsn = w.between; vlrs = vs; carrier = e } in
       let y : View C = record { sgsn = t; vlrs = vs; carrier = e } in

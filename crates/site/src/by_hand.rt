@@ -24,7 +24,7 @@ impl<C: InOrder> Site<C> {
     pub fn request(&mut self, imsi: Imsi, request: Request) -> Result<Reply, Denial>
         ensures step { Step C.Carrier.takes C.Carrier.puts (call.Request imsi request) (asked result) (view_of self.old) (view_of self.new) }
         ensures reply { IfOk result (λ reply. reply ≡ reply_to self.old.sgsn.sender.own imsi) }
-        ensures law { (es : Events) → Came C.Carrier.waiting C.InOrder.last_given C.Carrier.takes C.Carrier.puts es (view_of self.old) → Law ((call.Request imsi request, asked result) ∷ es) (view_of self.new) }
+        ensures law { (es : Events) → Came C.Carrier.waiting C.Carrier.takes C.Carrier.puts es (view_of self.old) → Law ((call.Request imsi request, asked result) ∷ es) (view_of self.new) }
     {
         self.sgsn.request(&mut self.carrier, imsi, request)
     }
@@ -33,7 +33,7 @@ impl<C: InOrder> Site<C> {
     pub fn detach(&mut self, imsi: Imsi, kind: u8) -> Result<Reply, Denial>
         ensures step { Step C.Carrier.takes C.Carrier.puts (call.Detach imsi kind) (asked result) (view_of self.old) (view_of self.new) }
         ensures reply { IfOk result (λ reply. reply ≡ reply_to self.old.sgsn.sender.own imsi) }
-        ensures law { (es : Events) → Came C.Carrier.waiting C.InOrder.last_given C.Carrier.takes C.Carrier.puts es (view_of self.old) → Law ((call.Detach imsi kind, asked result) ∷ es) (view_of self.new) }
+        ensures law { (es : Events) → Came C.Carrier.waiting C.Carrier.takes C.Carrier.puts es (view_of self.old) → Law ((call.Detach imsi kind, asked result) ∷ es) (view_of self.new) }
     {
         self.sgsn.detach(&mut self.carrier, imsi, kind)
     }
@@ -42,7 +42,7 @@ impl<C: InOrder> Site<C> {
     pub fn settle(&mut self, reply: Reply) -> Result<Verdict, (Denial, Reply)>
         ensures step { Settles C.Carrier.takes C.Carrier.puts reply result (view_of self.old) (view_of self.new) }
         ensures back { IfErr result (λ e. e.1 ≡ reply) }
-        ensures law { (es : Events) → Came C.Carrier.waiting C.InOrder.last_given C.Carrier.takes C.Carrier.puts es (view_of self.old) → Law (with_settling (is_its reply (view_of self.old)) reply result es) (view_of self.new) }
+        ensures law { (es : Events) → Came C.Carrier.waiting C.Carrier.takes C.Carrier.puts es (view_of self.old) → Law (with_settling (is_its reply (view_of self.old)) reply result es) (view_of self.new) }
     {
         self.sgsn.settle(reply)
     }
@@ -52,7 +52,7 @@ impl<C: InOrder> Site<C> {
         ensures settled { SettledInTime C.Carrier.puts reply result (state_of self.old.sgsn) self.old.carrier (state_of self.new.sgsn) self.new.carrier }
         ensures denied { IfErr result (λ e. e ≡ (Denial.NoSuchReply, reply)) }
         ensures vlrs { self.new.vlrs ≡ self.old.vlrs }
-        ensures law { (es : Events) → Came C.Carrier.waiting C.InOrder.last_given C.Carrier.takes C.Carrier.puts es (view_of self.old) → (fs : Events) × Came C.Carrier.waiting C.InOrder.last_given C.Carrier.takes C.Carrier.puts fs (view_of self.new) × Law fs (view_of self.new) }
+        ensures law { (es : Events) → Came C.Carrier.waiting C.Carrier.takes C.Carrier.puts es (view_of self.old) → (fs : Events) × Came C.Carrier.waiting C.Carrier.takes C.Carrier.puts fs (view_of self.new) × Law fs (view_of self.new) }
     {
         self.sgsn.settle_in_time(&mut self.carrier, reply)
     }

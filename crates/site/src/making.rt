@@ -61,7 +61,7 @@ impl<C: InOrder + Drop> Site<C> {
         vlrs: &[VlrNumber],
         carrier: C,
     ) -> Result<Site<C>, SiteError>
-        ensures { SiteMade C.Carrier.waiting C.InOrder.last_given number vlrs.now carrier result }
+        ensures { SiteMade C.Carrier.waiting number vlrs.now carrier result }
     {
         let sgsn = Sgsn::new(number, vlrs)?;
         let vlrs = registers(heap, number, &sgsn.peers[0..sgsn.count])?;

@@ -16,7 +16,7 @@ returns-in_err-vlrs g c =
     let all : list_all (λ p. lawful_nodes sgsn.sender.own p.vlr.node) (take (sgsn.count - 0) sgsn.peers) ≡ true = rw (sym (sub-zero sgsn.count)) at sgsn.nodes in
     let nodes = subst (λ n. list_all (λ p. lawful_nodes n p.vlr.node) (take (sgsn.count - 0) sgsn.peers) ≡ true) (ap (λ s. s.own) made.2) all in
     let memory = c.in_err-vlrs.ensures.only_memory nodes in
-    refused g.C.Carrier.waiting g.C.InOrder.last_given c.args.number c.args.vlrs.now c.args.carrier c.from_residual-in_err-vlrs.result c.in_err-vlrs.field-0.0 c.from_residual-in_err-vlrs.ensures.1 memory made.0
+    refused g.C.Carrier.waiting c.args.number c.args.vlrs.now c.args.carrier c.from_residual-in_err-vlrs.result c.in_err-vlrs.field-0.0 c.from_residual-in_err-vlrs.ensures.1 memory made.0
 
 pub returns : goal.returns
 returns g c =
