@@ -5,7 +5,7 @@ ghost use Rattle.imsi.specs.declared.Imsi.{Imsi};
 use imsi::Imsi;
 
 // A record of one mobile.
-pub trait OfMobile {
+pub trait OfMobile: Copy {
     ghost whose: { Self → Imsi };
 
     fn imsi(&self) -> Imsi

@@ -18,7 +18,7 @@ fn compare<R: OfMobile>(there: &R, imsi: Imsi) -> Ordering
 }
 
 // Where a mobile's record stands, or where it belongs.
-pub(crate) fn find<R: OfMobile + Copy>(list: &[R], imsi: Imsi) -> Result<usize, usize>
+pub(crate) fn find<R: OfMobile>(list: &[R], imsi: Imsi) -> Result<usize, usize>
     ensures within { Within (length list.now) result }
     ensures place { Climbs R.OfMobile.whose list.now → Place R.OfMobile.whose imsi list.now result }
 {
@@ -26,7 +26,7 @@ pub(crate) fn find<R: OfMobile + Copy>(list: &[R], imsi: Imsi) -> Result<usize, 
 }
 
 // Puts a record at `i`; those from there on move up by one place, and the last is lost.
-pub(crate) fn insert_at<R: Copy>(list: &mut [R], i: usize, record: R)
+pub(crate) fn insert_at<R: OfMobile>(list: &mut [R], i: usize, record: R)
     requires { i < length list.old }
     ensures { list.new ≡ insert (take (length list.old - 1) list.old) i «record» }
 {

@@ -11,7 +11,7 @@ use crate::search::{find, insert_at};
 use imsi::Imsi;
 
 // The record of a mobile among the first `held`.
-pub fn look<R: OfMobile + Copy>(places: &[R], held: usize, imsi: Imsi) -> Option<R>
+pub fn look<R: OfMobile>(places: &[R], held: usize, imsi: Imsi) -> Option<R>
     ensures { Held R.OfMobile.whose held places.now → result ≡ at R.OfMobile.whose (take held places.now) imsi }
 {
     if held > places.len() {
@@ -24,7 +24,7 @@ pub fn look<R: OfMobile + Copy>(places: &[R], held: usize, imsi: Imsi) -> Option
 
 // Writes a record over the one of its mobile, or in its place in the order, among the first `held`.
 // Answers how many are held now, or nothing where there is no place.
-pub fn store<R: OfMobile + Copy>(places: &mut [R], held: usize, record: R) -> Option<usize>
+pub fn store<R: OfMobile>(places: &mut [R], held: usize, record: R) -> Option<usize>
     ensures { Held R.OfMobile.whose held places.old → Stored R.OfMobile.whose held «record» places.old places.new result }
 {
     if held > places.len() {
@@ -46,7 +46,7 @@ pub fn store<R: OfMobile + Copy>(places: &mut [R], held: usize, record: R) -> Op
 }
 
 // Changes every one of these records.
-fn change_all<R: Copy, F: Change<R>>(list: &mut [R], change: &F)
+fn change_all<R: OfMobile, F: Change<R>>(list: &mut [R], change: &F)
     ensures { list.new ≡ map (F.Change.to change.now) list.old }
 {
     for record in list.iter_mut() {
@@ -55,7 +55,7 @@ fn change_all<R: Copy, F: Change<R>>(list: &mut [R], change: &F)
 }
 
 // Changes every record among the first `held`, and nothing behind them.
-pub fn change_each<R: OfMobile + Copy, F: Change<R>>(places: &mut [R], held: usize, change: &F)
+pub fn change_each<R: OfMobile, F: Change<R>>(places: &mut [R], held: usize, change: &F)
     ensures places { held ≤ length places.old → places.new ≡ map (F.Change.to change.now) (take held places.old) ++ drop held places.old }
     ensures lookups { held ≤ length places.old → AfterChange R.OfMobile.whose (F.Change.to change.now) (take held places.old) (take held places.new) }
 {
