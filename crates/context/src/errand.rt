@@ -5,6 +5,7 @@ ghost use Rattle.context.specs.Errands.{verdict_number, is_open, owes};
 use elements::area::LocationArea;
 use elements::code::{GprsDetachType, RejectCause};
 use elements::node::VlrNumber;
+use std::fmt;
 
 // How a request or detach ended.
 #[derive(Clone, Copy, Debug, PartialEq, Eq)]
@@ -26,6 +27,18 @@ impl Verdict {
             Verdict::Done => 1,
             Verdict::Rejected(_) => 2,
             Verdict::NotResponding => 3,
+        }
+    }
+}
+
+// The number for a program, and the meaning for a person.
+impl fmt::Display for Verdict {
+    fn fmt<W: fmt::Write>(&self, f: &mut fmt::Formatter<W>) -> fmt::Result {
+        write!(f, "verdict {}: ", self.number())?;
+        match self {
+            Verdict::Done => f.write_str("as it was asked"),
+            Verdict::Rejected(cause) => write!(f, "rejected, cause {cause}"),
+            Verdict::NotResponding => f.write_str("the VLR did not respond"),
         }
     }
 }

@@ -11,7 +11,6 @@ use frames::reading::read_frame;
 use std::error::Error;
 use std::fmt;
 use words::hexadecimal::octets_in_line;
-use words::in_words::InWords;
 use words::line::BadLine;
 
 // Why a line gives no frame: its octets have a fault, or it does not write octets.
@@ -40,7 +39,7 @@ impl From<BadLine> for Refusal {
 impl fmt::Display for Refusal {
     fn fmt<W: fmt::Write>(&self, f: &mut fmt::Formatter<W>) -> fmt::Result {
         match self {
-            Refusal::Fault(fault) => write!(f, "{}", InWords(*fault)),
+            Refusal::Fault(fault) => write!(f, "{fault}"),
             Refusal::Line(bad) => write!(f, "bad line: {bad}"),
         }
     }

@@ -1,13 +1,17 @@
 // Contents of one octet: which octet stands for which case.
 ghost use Rattle.std.specs.Prelude.{◌≡◌, ℕ, if◌then◌else◌, Some, None, Option, nat_eq};
-ghost use Rattle.elements.specs.Codes.{cause_octet, cause_in, update_octet, update_in, class_octet, class_in, gprs_detach_octet, gprs_detach_in, imsi_detach_octet, imsi_detach_in, reject_in, entity_in};
-ghost use Rattle.elements.specs.Backs.{cause_back, update_back, class_back, gprs_back, imsi_back, reject_back, entity_back};
+ghost use Rattle.elements.specs.Codes.{cause_octet, cause_in, update_octet, update_in, class_octet, class_in};
+ghost use Rattle.elements.specs.Codes.{gprs_detach_octet, gprs_detach_in, imsi_detach_octet, imsi_detach_in};
+ghost use Rattle.elements.specs.Codes.{reject_in, entity_in};
+ghost use Rattle.elements.specs.Backs.{cause_back, update_back, class_back, gprs_back, imsi_back};
+ghost use Rattle.elements.specs.Backs.{reject_back, entity_back};
 
 use crate::node::NodeNumber;
+use std::fmt;
 
 // What fits one content octet: an octet for each value, and the value, if any, that an octet stands for.
-// Not From and TryFrom: what is said of reading an element takes `value_in` as a function, and what those two give is said
-// by relations.
+// Not From and TryFrom: what is said of reading an element takes `value_in` as a function, and what those two give
+// is said by relations.
 pub trait Coded: Sized {
     ghost octet_of: { Self → ℕ };
 
@@ -23,10 +27,11 @@ pub trait Coded: Sized {
     ghost back: { (n : ℕ) (x : Self) → value_in n ≡ Some x → octet_of x ≡ n };
 }
 
-// Of two values the one that this octet stands for, 1 or 2. Written without a match, whose jump is mispredicted
-// half the time.
+// Of two values the one that this octet stands for, 1 or 2.
+// Written without a match, whose jump is mispredicted half the time.
 fn either<T: Copy>(octet: u8, first: T, second: T) -> Option<T>
-    ensures { result ≡ (if nat_eq octet 1 then Some first else (if nat_eq octet 2 then Some second else None)) }
+    ensures { result ≡ (if nat_eq octet 1 then Some first
+        else (if nat_eq octet 2 then Some second else None)) }
 {
     if octet < 1 || octet > 2 {
         return None;
@@ -34,8 +39,8 @@ fn either<T: Copy>(octet: u8, first: T, second: T) -> Option<T>
     Some(if octet == 1 { first } else { second })
 }
 
-// Five codes have two cases each. A trait of two cases with one impl over it would ask each code for as many lines as
-// stand here: its two cases, its numbers, and what is proved of them.
+// Five codes have two cases each. A trait of two cases with one impl over it would ask each code for as many lines
+// as stand here: its two cases, its numbers, and what is proved of them.
 
 // Why a mobile was not paged, or what became of it.
 #[derive(Clone, Copy, Debug, PartialEq, Eq, Hash)]
@@ -173,6 +178,13 @@ impl Coded for RejectCause {
 
     fn from_octet(octet: u8) -> Option<RejectCause> {
         (octet != 0).then_some(RejectCause { number: octet })
+    }
+}
+
+// What the numbers mean is the affair of the VLR that rejects.
+impl fmt::Display for RejectCause {
+    fn fmt<W: fmt::Write>(&self, f: &mut fmt::Formatter<W>) -> fmt::Result {
+        write!(f, "{}", self.number)
     }
 }
 

@@ -2,6 +2,9 @@
 ghost use Rattle.std.specs.Prelude.{◌≡◌};
 ghost use Rattle.elements.specs.Faults.{fault_number, fault_layer};
 
+use std::error::Error;
+use std::fmt;
+
 // The part of the format that a fault belongs to.
 #[derive(Clone, Copy, Debug, PartialEq, Eq, Hash)]
 pub enum Layer {
@@ -9,26 +12,17 @@ pub enum Layer {
     Message,
 }
 
-// Each kind has the number by which users know it.
+// Each kind has the number by which users know it. Which rule is broken, its text says.
 #[derive(Clone, Copy, Debug, PartialEq, Eq, Hash, PartialOrd, Ord)]
 pub enum FaultKind {
-    // a frame has not 11 to 64 octets
     FrameSize = 20,
-    // a node number is unlawful, or both are equal
     Nodes = 21,
-    // the stamp is 0
     Stamp = 22,
-    // the message type is not in the table
     MessageType = 23,
-    // the element that must come next has another identifier
     Identifier = 24,
-    // a length that the element or the end of the octets forbids
     Length = 25,
-    // contents that the element forbids
     Contents = 26,
-    // octets after the last element
     Trailing = 27,
-    // the buffer to write into is shorter than the longest frame
     Buffer = 28,
 }
 
@@ -67,3 +61,44 @@ pub struct Fault {
     pub kind: FaultKind,
     pub place: usize,
 }
+
+impl fmt::Display for Layer {
+    fn fmt<W: fmt::Write>(&self, f: &mut fmt::Formatter<W>) -> fmt::Result {
+        f.write_str(match self {
+            Layer::Frame => "frame",
+            Layer::Message => "message",
+        })
+    }
+}
+
+// Which rule is broken.
+impl fmt::Display for FaultKind {
+    fn fmt<W: fmt::Write>(&self, f: &mut fmt::Formatter<W>) -> fmt::Result {
+        f.write_str(match self {
+            FaultKind::FrameSize => "not 11 to 64 octets",
+            FaultKind::Nodes => "the nodes are not two different numbers from 1 to 254",
+            FaultKind::Stamp => "the stamp is 0",
+            FaultKind::MessageType => "no message has this type",
+            FaultKind::Identifier => "not the element that must come next",
+            FaultKind::Length => "a length that the element or the end of the octets forbids",
+            FaultKind::Contents => "contents that the element forbids",
+            FaultKind::Trailing => "octets after the last element",
+            FaultKind::Buffer => "a buffer shorter than the longest frame",
+        })
+    }
+}
+
+// Number, layer and place for a program, and the reason for a person.
+impl fmt::Display for Fault {
+    fn fmt<W: fmt::Write>(&self, f: &mut fmt::Formatter<W>) -> fmt::Result {
+        let Fault { kind, place } = *self;
+        write!(
+            f,
+            "fault {} {} {place}: {kind}",
+            kind.number(),
+            kind.layer()
+        )
+    }
+}
+
+impl Error for Fault {}

@@ -1,6 +1,7 @@
 // What a message is made of: faults, node numbers, codes, and the twelve kinds of element.
 #![tactic(auto)]
 
+pub mod absent;
 pub mod area;
 pub mod code;
 pub mod element;

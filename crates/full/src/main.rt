@@ -1,18 +1,16 @@
 // Fills every place of a voice register, is refused one mobile more, and enrols a held one again.
 #![tactic(auto)]
 
-use answers::Answer;
 use elements::node::{NodeNumber, SgsnNumber, VlrNumber};
 use imsi::Imsi;
 use std::io;
 use vlr::vlr::{PLACES, Vlr};
-use words::in_words::InWords;
 
 // One mobile more than there are places.
 const MOBILES: u64 = 1025;
 
-// The mobiles as they come, which is not in the order of their numbers: 7 and 1,025 have no common factor, so that none
-// comes twice.
+// The mobiles as they come, which is not in the order of their numbers: 7 and 1,025 have no common factor, so that
+// none comes twice.
 fn mobile(place: u64) -> Imsi {
     Imsi {
         digits: 15,
@@ -26,12 +24,10 @@ fn numbered(number: u8) -> NodeNumber {
 
 // Enrols a mobile, and shows what is answered.
 fn enrol(rt: &HostRuntime, vlr: &mut Vlr, imsi: Imsi, home_cause: u8) -> io::Result<()> {
-    let answer = vlr.enrol(imsi, home_cause);
-    println!(rt;
-        "enrol {}, home cause {home_cause}: {}",
-        InWords(imsi),
-        Answer(answer)
-    )
+    match vlr.enrol(imsi, home_cause) {
+        Ok(()) => println!(rt; "enrol {imsi}, home cause {home_cause}: accepted"),
+        Err(denial) => println!(rt; "enrol {imsi}, home cause {home_cause}: {denial}"),
+    }
 }
 
 // What the register holds.
@@ -67,7 +63,7 @@ fn run(rt: &HostRuntime) -> io::Result<()> {
     let sgsn = SgsnNumber { node: numbered(1) };
     match Vlr::new(own, sgsn) {
         Ok(mut vlr) => fill(rt, &mut vlr),
-        Err(denial) => println!(rt; "{}", Answer(denial)),
+        Err(denial) => println!(rt; "{denial}"),
     }
 }
 

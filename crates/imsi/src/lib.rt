@@ -4,6 +4,8 @@
 ghost use Rattle.std.specs.Prelude.{◌≡◌};
 ghost use Rattle.imsi.specs.Spelling.{lawful_imsi};
 
+use std::fmt;
+
 mod halves;
 pub mod reading;
 pub mod writing;
@@ -43,5 +45,14 @@ impl Imsi {
         ensures { result ≡ lawful_imsi self.digits self.value }
     {
         matches!(self.digits, 1..=15) && self.value < LIMITS[self.digits as usize]
+    }
+}
+
+// All digits, so that 01 and 1 stay two mobiles.
+impl fmt::Display for Imsi {
+    fn fmt<W: fmt::Write>(&self, f: &mut fmt::Formatter<W>) -> fmt::Result {
+        let value = self.value;
+        let digits = self.digits as usize;
+        write!(f, "{value:0digits$}")
     }
 }

@@ -6,19 +6,18 @@ use crate::mistake::{LineError, Mistake};
 use crate::site::Site;
 use crate::spoken::Spoken;
 use crate::tally::{Event, Tally};
-use answers::Answer;
 use frames::writing::write_frame;
 use imsi::Imsi;
 use station::denial::Denial;
 use station::receiving::Refusal;
-use std::io;
+use std::{fmt, io};
 use vlr::vlr::Vlr;
 use words::counting::count;
-use words::in_words::InWords;
 
 #[derive(Drop)]
 pub(crate) struct Bench {
-    // of lines, by `count`, which stays at the largest number: `enumerate` would ask for a proof that the lines end before it
+    // of lines, by `count`, which stays at the largest number: `enumerate` would ask for a proof that the lines end
+    // before it
     number: u64,
     site: Option<Site>,
     tally: Tally,
@@ -131,7 +130,7 @@ impl Bench {
             Err(Refusal::Denied(_)) => Event::Denied,
             Ok(_) | Err(Refusal::Faulty(_)) => Event::Accepted,
         });
-        println!(rt; "line {}: deliver: {}", self.number, Answer(answer))?;
+        self.say(rt, "deliver", answer)?;
         self.went(rt, before)
     }
 
@@ -145,7 +144,20 @@ impl Bench {
             Ok(()) => Event::Accepted,
             Err(_) => Event::Denied,
         });
-        println!(rt; "line {}: {call}: {}", self.number, Answer(answer))?;
+        self.say(rt, call, answer.map(|()| "accepted"))
+    }
+
+    // What a call answers, or why it was refused.
+    fn say<T: fmt::Display + Drop, E: fmt::Display + Drop>(
+        &self,
+        rt: &HostRuntime,
+        call: &str,
+        answer: Result<T, E>,
+    ) -> Result<(), LineError> {
+        match answer {
+            Ok(answer) => println!(rt; "line {}: {call}: {answer}", self.number)?,
+            Err(refusal) => println!(rt; "line {}: {call}: {refusal}", self.number)?,
+        }
         Ok(())
     }
 

@@ -15,10 +15,8 @@ impl fmt::Display for Came<'_> {
     fn fmt<W: fmt::Write>(&self, f: &mut fmt::Formatter<W>) -> fmt::Result {
         match read_frame(self.octets) {
             Ok(frame) => write!(f, "arrives: {}", InWords(frame)),
-            Err(fault) if fault.kind == FaultKind::FrameSize => {
-                write!(f, "arrives, lost: {}", InWords(fault))
-            }
-            Err(fault) => write!(f, "arrives: {}", InWords(fault)),
+            Err(fault) if fault.kind == FaultKind::FrameSize => write!(f, "arrives, lost: {fault}"),
+            Err(fault) => write!(f, "arrives: {fault}"),
         }
     }
 }
@@ -37,7 +35,7 @@ impl fmt::Display for Went<'_> {
         };
         match read_frame(self.octets) {
             Ok(frame) => write!(f, "puts {octets}: {}", InWords(frame)),
-            Err(fault) => write!(f, "puts {octets}: {}", InWords(fault)),
+            Err(fault) => write!(f, "puts {octets}: {fault}"),
         }
     }
 }

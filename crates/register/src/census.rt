@@ -1,10 +1,8 @@
 // The table of a register, and what it comes to.
-use answers::Answer;
 use station::mark::Mark;
 use std::fmt;
 use vlr::record::Record;
 use vlr::vlr::{PLACES, Vlr};
-use words::in_words::InWords;
 
 // One record.
 #[derive(Clone, Copy)]
@@ -21,9 +19,7 @@ impl fmt::Display for Row {
         write!(
             f,
             "IMSI {}, home cause {}, {attached}, mark {}",
-            InWords(record.imsi),
-            record.home_cause,
-            Answer(record.mark)
+            record.imsi, record.home_cause, record.mark
         )
     }
 }

@@ -3,7 +3,6 @@ use elements::fault::Fault;
 use std::alloc::AllocError;
 use std::error::Error;
 use std::{fmt, io};
-use words::in_words::InWords;
 use words::line::BadLine;
 
 // What is wrong with a line.
@@ -41,7 +40,8 @@ impl fmt::Display for Mistake {
             Mistake::Numbers => "register wants two node numbers, its own and its SGSN's",
             Mistake::Enrol => "enrol wants an IMSI and a home cause from 0 to 255",
             Mistake::Page => {
-                "page wants an IMSI, then tmsi and 8 hexadecimal digits, then channel and a number, or neither"
+                "page wants an IMSI, then tmsi and 8 hexadecimal digits, then channel and a number, \
+                 or neither"
             }
             Mistake::Lose => "lose stands alone",
             Mistake::Tick => "tick wants at most a number from 0 to 255",
@@ -49,19 +49,19 @@ impl fmt::Display for Mistake {
                 "from wants a node number, stamp and a number, perhaps answers and a number, and a message"
             }
             Mistake::Message => {
-                "the messages are lu-request, gprs-detach, imsi-detach, paging-failure, mobile-status, reset and reset-acknowledge, each with its own words"
+                "the messages are lu-request, gprs-detach, imsi-detach, paging-failure, mobile-status, reset \
+                 and reset-acknowledge, each with its own words"
             }
             Mistake::Request => {
-                "lu-request wants an IMSI, imsi-attach or normal, the old and the new area in 10 hexadecimal digits each, and A or B"
+                "lu-request wants an IMSI, imsi-attach or normal, the old and the new area in 10 hexadecimal \
+                 digits each, and A or B"
             }
             Mistake::NoOctets => "frame wants octets",
             Mistake::Elsewhere => "the frame is for another node",
             Mistake::NoRegister => "no register yet",
             Mistake::Second => "there is a register already",
             Mistake::Octets(bad) => return write!(f, "{bad}"),
-            Mistake::Unwritten(fault) => {
-                return write!(f, "no such frame, {}", InWords(*fault));
-            }
+            Mistake::Unwritten(fault) => return write!(f, "no such frame, {fault}"),
         };
         f.write_str(text)
     }

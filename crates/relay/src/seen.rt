@@ -20,7 +20,7 @@ impl fmt::Display for Seen<'_> {
                     octets: self.octets,
                     between: "",
                 };
-                write!(f, "octets {octets}, {}", InWords(fault))
+                write!(f, "octets {octets}, {fault}")
             }
         }
     }
@@ -37,10 +37,8 @@ impl fmt::Display for Offered<'_> {
     fn fmt<W: fmt::Write>(&self, f: &mut fmt::Formatter<W>) -> fmt::Result {
         match read_frame(self.octets) {
             Ok(frame) => write!(f, "put: {}", InWords(frame)),
-            Err(fault) if fault.kind == FaultKind::FrameSize => {
-                write!(f, "put, lost: {}", InWords(fault))
-            }
-            Err(fault) => write!(f, "put: {}", InWords(fault)),
+            Err(fault) if fault.kind == FaultKind::FrameSize => write!(f, "put, lost: {fault}"),
+            Err(fault) => write!(f, "put: {fault}"),
         }
     }
 }

@@ -1,7 +1,6 @@
 // Which call an answer is for.
 use imsi::Imsi;
 use std::fmt;
-use words::in_words::InWords;
 
 // One call of several that a line asks for.
 #[derive(Clone, Copy)]
@@ -38,7 +37,7 @@ impl fmt::Display for Heading<'_> {
                 turn,
             } => write!(f, "line {number}: {words}, {} of {}", turn.nth, turn.of),
             Heading::LastTick(nth) => write!(f, "end: tick {nth}"),
-            Heading::LastSettle(imsi) => write!(f, "end: settle {}", InWords(imsi)),
+            Heading::LastSettle(imsi) => write!(f, "end: settle {imsi}"),
         }
     }
 }

@@ -82,7 +82,7 @@ impl fmt::Display for Rung {
         )?;
         match read_frame(self.datagram.as_slice()) {
             Ok(frame) => write!(f, "{}", Brief(frame)),
-            Err(fault) => write!(f, "{}", InWords(fault)),
+            Err(fault) => write!(f, "{fault}"),
         }
     }
 }
@@ -107,7 +107,7 @@ impl fmt::Display for Brief {
 // What a message says, without what the line of its call has shown.
 fn content<W: fmt::Write>(f: &mut fmt::Formatter<W>, message: Message) -> fmt::Result {
     match message {
-        Message::Paging { imsi, .. } => write!(f, " {}", InWords(imsi)),
+        Message::Paging { imsi, .. } => write!(f, " {imsi}"),
         Message::PagingFailure { imsi, cause } | Message::MobileStatus { imsi, cause } => of_mobile(
             f,
             imsi,
@@ -124,7 +124,7 @@ fn content<W: fmt::Write>(f: &mut fmt::Formatter<W>, message: Message) -> fmt::R
             write!(f, ", {} to {}", InWords(old_area), InWords(new_area))
         }
         Message::LuAccept { imsi, new_area } => of_mobile(f, imsi, InWords(new_area)),
-        Message::LuReject { imsi, cause } => of_mobile(f, imsi, InWords(cause)),
+        Message::LuReject { imsi, cause } => of_mobile(f, imsi, cause),
         Message::Reset { .. } | Message::ResetAcknowledge { .. } => Ok(()),
         Message::GprsDetachIndication { imsi, detach }
         | Message::GprsDetachAcknowledge { imsi, detach } => of_mobile(f, imsi, InWords(detach)),
@@ -138,5 +138,5 @@ fn of_mobile<W: fmt::Write, T: fmt::Display + Drop>(
     imsi: Imsi,
     value: T,
 ) -> fmt::Result {
-    write!(f, " {}, {value}", InWords(imsi))
+    write!(f, " {imsi}, {value}")
 }

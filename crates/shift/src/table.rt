@@ -60,7 +60,7 @@ struct Column(Imsi);
 impl fmt::Display for Column {
     fn fmt<W: fmt::Write>(&self, f: &mut fmt::Formatter<W>) -> fmt::Result {
         let behind = LONGEST_IMSI.saturating_sub(self.0.digits as usize);
-        write!(f, "{}{:behind$}", InWords(self.0), "")
+        write!(f, "{}{:behind$}", self.0, "")
     }
 }
 
@@ -89,11 +89,7 @@ impl fmt::Display for Count {
             confirmed,
             unsure,
         } = *self;
-        write!(
-            f,
-            "VLR {}: Confirmed {confirmed}, Unsure {unsure}",
-            InWords(vlr.node)
-        )
+        write!(f, "{vlr}: Confirmed {confirmed}, Unsure {unsure}")
     }
 }
 

@@ -2,6 +2,8 @@
 ghost use Rattle.std.specs.Prelude.{◌≡◌};
 ghost use Rattle.station.specs.Marks.{doubted, node_in};
 
+use std::fmt;
+
 // `N` is the kind of the other end's number: a VLR's in the SGSN's table, the SGSN's in a VLR's.
 // An enum whose cases carry the number, the same in both tables: the three marks are what planners read.
 #[derive(Clone, Copy, Debug, PartialEq, Eq)]
@@ -32,6 +34,16 @@ impl<N: Copy> Mark<N> {
         match self {
             Mark::None => None,
             Mark::Confirmed(node) | Mark::Unsure(node) => Some(node),
+        }
+    }
+}
+
+impl<N: fmt::Display> fmt::Display for Mark<N> {
+    fn fmt<W: fmt::Write>(&self, f: &mut fmt::Formatter<W>) -> fmt::Result {
+        match self {
+            Mark::None => f.write_str("None"),
+            Mark::Confirmed(node) => write!(f, "Confirmed with {node}"),
+            Mark::Unsure(node) => write!(f, "Unsure with {node}"),
         }
     }
 }

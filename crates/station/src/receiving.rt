@@ -7,12 +7,15 @@ use crate::denial::Denial;
 use carrier::carrier::Carrier;
 use carrier::datagram::Datagram;
 use carrier::in_order::InOrder;
+use elements::absent::{OrAbsent, Tmsi};
 use elements::fault::Fault;
 use elements::node::NodeNumber;
 use frames::frame::Frame;
 use frames::reading::read_frame;
 use imsi::Imsi;
 use messages::message::Message;
+use std::error::Error;
+use std::fmt;
 
 // What a delivery brings about. A page order tells the radio side to page the mobile.
 #[derive(Clone, Copy, Debug, PartialEq, Eq)]
@@ -24,6 +27,24 @@ pub enum Delivery {
         channel: Option<u8>,
     },
     Done,
+}
+
+impl fmt::Display for Delivery {
+    fn fmt<W: fmt::Write>(&self, f: &mut fmt::Formatter<W>) -> fmt::Result {
+        match *self {
+            Delivery::Nothing => f.write_str("nothing"),
+            Delivery::Done => f.write_str("done"),
+            Delivery::PageOrder {
+                imsi,
+                tmsi,
+                channel,
+            } => {
+                let tmsi = OrAbsent(tmsi.map(Tmsi));
+                let channel = OrAbsent(channel);
+                write!(f, "page order, IMSI {imsi}, TMSI {tmsi}, channel {channel}")
+            }
+        }
+    }
 }
 
 // Why a delivery brings nothing about: the end made no call, or what came is no frame.
@@ -48,6 +69,17 @@ impl From<Fault> for Refusal {
         Refusal::Faulty(fault)
     }
 }
+
+impl fmt::Display for Refusal {
+    fn fmt<W: fmt::Write>(&self, f: &mut fmt::Formatter<W>) -> fmt::Result {
+        match self {
+            Refusal::Denied(reason) => write!(f, "{reason}"),
+            Refusal::Faulty(reason) => write!(f, "{reason}"),
+        }
+    }
+}
+
+impl Error for Refusal {}
 
 // Takes once for a node, and reads what was given.
 pub fn take_frame<C: InOrder>(carrier: &mut C, node: NodeNumber) -> Option<Result<Frame, Fault>>

@@ -2,27 +2,8 @@
 use crate::hexadecimal::Hex;
 use crate::in_words::InWords;
 use elements::area::LocationArea;
-use elements::code::{
-    Cause, Class, Coded, GprsDetachType, ImsiDetachType, RejectCause, UpdateType,
-};
-use elements::node::NodeNumber;
-use imsi::Imsi;
+use elements::code::{Cause, Class, Coded, GprsDetachType, ImsiDetachType, UpdateType};
 use std::fmt;
-
-// All digits, so that 01 and 1 stay two mobiles.
-impl fmt::Display for InWords<Imsi> {
-    fn fmt<W: fmt::Write>(&self, f: &mut fmt::Formatter<W>) -> fmt::Result {
-        let value = self.0.value;
-        let digits = self.0.digits as usize;
-        write!(f, "{value:0digits$}")
-    }
-}
-
-impl fmt::Display for InWords<NodeNumber> {
-    fn fmt<W: fmt::Write>(&self, f: &mut fmt::Formatter<W>) -> fmt::Result {
-        write!(f, "{}", self.0.number)
-    }
-}
 
 impl fmt::Display for InWords<LocationArea> {
     fn fmt<W: fmt::Write>(&self, f: &mut fmt::Formatter<W>) -> fmt::Result {
@@ -87,33 +68,6 @@ impl Meaning for ImsiDetachType {
         match self {
             ImsiDetachType::Unacknowledged => "unacknowledged",
             ImsiDetachType::Acknowledged => "acknowledged",
-        }
-    }
-}
-
-// Its number alone: what the numbers mean is the affair of the VLR that rejects.
-impl fmt::Display for InWords<RejectCause> {
-    fn fmt<W: fmt::Write>(&self, f: &mut fmt::Formatter<W>) -> fmt::Result {
-        write!(f, "{}", self.0.number)
-    }
-}
-
-// A mobile's temporary identity, as the four octets that carry it.
-#[derive(Clone, Copy)]
-pub struct Tmsi(pub u32);
-
-impl fmt::Display for Tmsi {
-    fn fmt<W: fmt::Write>(&self, f: &mut fmt::Formatter<W>) -> fmt::Result {
-        write!(f, "{:08X}", self.0)
-    }
-}
-
-// An element that a message may lack, as the TMSI and the channel that a mobile needs.
-impl<T: fmt::Display> fmt::Display for InWords<Option<T>> {
-    fn fmt<W: fmt::Write>(&self, f: &mut fmt::Formatter<W>) -> fmt::Result {
-        match &self.0 {
-            Some(element) => write!(f, "{element}"),
-            None => f.write_str("absent"),
         }
     }
 }

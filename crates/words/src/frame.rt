@@ -12,12 +12,7 @@ impl fmt::Display for InWords<Frame> {
             answers,
             message,
         } = self.0;
-        write!(
-            f,
-            "node {} to node {}, stamp {stamp}, ",
-            InWords(source),
-            InWords(destination)
-        )?;
+        write!(f, "node {source} to node {destination}, stamp {stamp}, ")?;
         if answers == 0 {
             write!(f, "answers none: {}", InWords(message))
         } else {

@@ -1,9 +1,8 @@
-// What the programs share: octets in hexadecimal, frames and faults in words, and how they count.
+// What the programs share: octets in hexadecimal, frames in words, and how they count.
 #![tactic(auto)]
 
 pub mod counting;
 pub mod element;
-pub mod fault;
 pub mod frame;
 pub mod hexadecimal;
 pub mod in_words;

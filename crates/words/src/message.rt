@@ -1,6 +1,6 @@
 // Messages in words: the message's name, then each element by its name.
-use crate::element::Tmsi;
 use crate::in_words::InWords;
+use elements::absent::{OrAbsent, Tmsi};
 use imsi::Imsi;
 use messages::kind::MessageType;
 use messages::message::Message;
@@ -35,8 +35,8 @@ impl fmt::Display for InWords<Message> {
                 tmsi,
                 channel,
             } => {
-                imsi_and(f, imsi, "TMSI", InWords(tmsi.map(Tmsi)))?;
-                write!(f, ", channel {}", InWords(channel))
+                imsi_and(f, imsi, "TMSI", OrAbsent(tmsi.map(Tmsi)))?;
+                write!(f, ", channel {}", OrAbsent(channel))
             }
             Message::PagingFailure { imsi, cause } | Message::MobileStatus { imsi, cause } =>
                 imsi_and(f, imsi, "cause", InWords(cause)),
@@ -55,9 +55,9 @@ impl fmt::Display for InWords<Message> {
             Message::LuAccept { imsi, new_area } => {
                 imsi_and(f, imsi, "new location area", InWords(new_area))
             }
-            Message::LuReject { imsi, cause } => imsi_and(f, imsi, "reject cause", InWords(cause)),
+            Message::LuReject { imsi, cause } => imsi_and(f, imsi, "reject cause", cause),
             Message::Reset { entity } | Message::ResetAcknowledge { entity } => {
-                write!(f, "entity {}", InWords(entity))
+                write!(f, "entity {entity}")
             }
             Message::GprsDetachIndication { imsi, detach }
             | Message::GprsDetachAcknowledge { imsi, detach } => {
@@ -78,5 +78,5 @@ fn imsi_and<W: fmt::Write, T: fmt::Display + Drop>(
     element: &str,
     value: T,
 ) -> fmt::Result {
-    write!(f, "IMSI {}, {element} {value}", InWords(imsi))
+    write!(f, "IMSI {imsi}, {element} {value}")
 }
