@@ -1,11 +1,11 @@
 // The register at work, and what is printed of it.
-use crate::came::{Came, Went};
 use crate::census::{Census, Row};
 use crate::command::{Command, Numbers, Page, command_in};
 use crate::mistake::{LineError, Mistake};
 use crate::site::Site;
 use crate::spoken::Spoken;
 use crate::tally::{Event, Tally};
+use crate::went::Went;
 use frames::writing::write_frame;
 use imsi::Imsi;
 use station::denial::Denial;
@@ -13,6 +13,7 @@ use station::receiving::Refusal;
 use std::{fmt, io};
 use vlr::vlr::Vlr;
 use words::counting::count;
+use words::frame::Offered;
 
 #[derive(Drop)]
 pub(crate) struct Bench {
@@ -123,7 +124,14 @@ impl Bench {
         {
             return Err(Mistake::Elsewhere.into());
         }
-        println!(rt; "line {}: {}", self.number, Came { octets })?;
+        println!(rt;
+            "line {}: {}",
+            self.number,
+            Offered {
+                how: "arrives",
+                octets
+            }
+        )?;
         let before = site.vlr.sender.last;
         let answer = site.deliver(octets);
         self.tally.note(match answer {

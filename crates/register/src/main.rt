@@ -2,13 +2,13 @@
 #![tactic(auto)]
 
 mod bench;
-mod came;
 mod census;
 mod command;
 mod mistake;
 mod site;
 mod spoken;
 mod tally;
+mod went;
 mod words_in;
 
 use bench::Bench;

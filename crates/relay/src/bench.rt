@@ -2,11 +2,12 @@
 use crate::command::{Command, Make, command_in};
 use crate::mistake::{LineError, Mistake};
 use crate::relay::Relay;
-use crate::seen::{Offered, Seen};
+use crate::seen::Seen;
 use crate::tally::{Event, Tally};
 use elements::node::NodeNumber;
 use std::io;
 use words::counting::count;
+use words::frame::Offered;
 
 // A carrier, and the line that it was made in.
 #[derive(Drop)]
@@ -17,7 +18,8 @@ struct Placed {
 
 #[derive(Drop)]
 pub(crate) struct Bench {
-    // of lines, by `count`, which stays at the largest number: `enumerate` would ask for a proof that the lines end before it
+    // of lines, by `count`, which stays at the largest number: `enumerate` would ask for a proof that the lines end
+    // before it
     number: u64,
     placed: Option<Placed>,
     tally: Tally,
@@ -63,7 +65,8 @@ impl Bench {
         let placed = self.placed.as_mut().ok_or(Mistake::NoCarrier)?;
         placed.relay.put(octets);
         self.tally.note(Event::Put);
-        println!(rt; "line {}: {}", self.number, Offered { octets })?;
+        // The fault alone stands for octets that are no frame: the script shows them.
+        println!(rt; "line {}: {}", self.number, Offered { how: "put", octets })?;
         Ok(())
     }
 

@@ -8,12 +8,13 @@ use crate::told::Told;
 use elements::node::NodeNumber;
 use law::call::Answer;
 use site::making::SiteError;
-use std::alloc::{AllocError, Global};
+use std::alloc::Global;
 use words::counting::count;
 
 #[derive(Drop)]
 pub(crate) struct Bench {
-    // of lines, by `count`, which stays at the largest number: `enumerate` would ask for a proof that the lines end before it
+    // of lines, by `count`, which stays at the largest number: `enumerate` would ask for a proof that the lines end
+    // before it
     number: u64,
     script: Vec<u8>,
     place: Option<Place>,
@@ -56,7 +57,7 @@ impl Bench {
             return Err(Mistake::Late.into());
         }
         for octet in octets {
-            self.script.push(*octet).map_err(AllocError::from)?;
+            self.script.push(*octet)?;
         }
         Ok(())
     }

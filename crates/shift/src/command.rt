@@ -3,7 +3,7 @@ use crate::deed::{Deed, deed_in};
 use crate::mistake::{LineError, Mistake};
 use crate::words_in::{node_in, number_in};
 use elements::node::{NodeNumber, SgsnNumber, VlrNumber};
-use std::alloc::{AllocError, Global};
+use std::alloc::Global;
 use std::str;
 
 // The SGSN's number, and its VLRs'.
@@ -56,7 +56,7 @@ fn numbers_in(heap: Global, sgsn: &str, words: &[&str]) -> Result<Numbers, LineE
     let mut vlrs = Vec::new(heap);
     for word in words {
         let node = node_in(word).ok_or(Mistake::Site)?;
-        vlrs.push(VlrNumber { node }).map_err(AllocError::from)?;
+        vlrs.push(VlrNumber { node })?;
     }
     Ok(Numbers { sgsn, vlrs })
 }
@@ -69,7 +69,7 @@ fn script_in(heap: Global, words: &[&str]) -> Result<Vec<u8>, LineError> {
         let count: u8 = number_in(count).ok_or(Mistake::Script)?;
         let octet = number_in(octet).ok_or(Mistake::Script)?;
         for _ in 0..count {
-            octets.push(octet).map_err(AllocError::from)?;
+            octets.push(octet)?;
         }
     }
     Ok(octets)

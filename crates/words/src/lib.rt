@@ -7,4 +7,5 @@ pub mod frame;
 pub mod hexadecimal;
 pub mod in_words;
 pub mod line;
+pub mod line_error;
 pub mod message;
