@@ -13,7 +13,8 @@ pub trait OfMobile: Copy {
 }
 
 // A change that can be made to every record.
-// A trait, not a closure, whose calls the caller would have to allow at each record: `to` is a function, of which laws speak.
+// A trait, not a closure, whose calls the caller would have to allow at each record: `to` is a function, of
+// which laws speak.
 pub trait Change<R> {
     ghost to: { Self → R → R };
 

@@ -1,6 +1,6 @@
 // Looking up, storing and changing the records in the first places of a slice.
-// A slice and the count of places held, not one type that has both: its invariant would be that the records rise, and a
-// ghost field cannot cite what a bound says of a record.
+// A slice and the count of places held, not one type that has both: its invariant would be that the records
+// rise, and a ghost field cannot cite what a bound says of a record.
 // Each promise supposes that those records rise; whoever holds them keeps that, as each change of them does.
 ghost use Rattle.std.specs.Prelude.{◌≡◌, ◌≤◌, ◌++◌, map, length, take, drop};
 ghost use Rattle.directory.specs.Lookup.{at, Held, Stored, AfterChange};
@@ -12,7 +12,8 @@ use imsi::Imsi;
 
 // The record of a mobile among the first `held`.
 pub fn look<R: OfMobile>(places: &[R], held: usize, imsi: Imsi) -> Option<R>
-    ensures { Held R.OfMobile.whose held places.now → result ≡ at R.OfMobile.whose (take held places.now) imsi }
+    ensures { Held R.OfMobile.whose held places.now
+        → result ≡ at R.OfMobile.whose (take held places.now) imsi }
 {
     if held > places.len() {
         return None;
@@ -25,7 +26,8 @@ pub fn look<R: OfMobile>(places: &[R], held: usize, imsi: Imsi) -> Option<R>
 // Writes a record over the one of its mobile, or in its place in the order, among the first `held`.
 // Answers how many are held now, or nothing where there is no place.
 pub fn store<R: OfMobile>(places: &mut [R], held: usize, record: R) -> Option<usize>
-    ensures { Held R.OfMobile.whose held places.old → Stored R.OfMobile.whose held «record» places.old places.new result }
+    ensures { Held R.OfMobile.whose held places.old
+        → Stored R.OfMobile.whose held «record» places.old places.new result }
 {
     if held > places.len() {
         return None;
@@ -56,8 +58,11 @@ fn change_all<R: OfMobile, F: Change<R>>(list: &mut [R], change: &F)
 
 // Changes every record among the first `held`, and nothing behind them.
 pub fn change_each<R: OfMobile, F: Change<R>>(places: &mut [R], held: usize, change: &F)
-    ensures places { held ≤ length places.old → places.new ≡ map (F.Change.to change.now) (take held places.old) ++ drop held places.old }
-    ensures lookups { held ≤ length places.old → AfterChange R.OfMobile.whose (F.Change.to change.now) (take held places.old) (take held places.new) }
+    ensures places { held ≤ length places.old
+        → places.new ≡ map (F.Change.to change.now) (take held places.old) ++ drop held places.old }
+    ensures lookups { held ≤ length places.old
+        → AfterChange R.OfMobile.whose (F.Change.to change.now)
+        (take held places.old) (take held places.new) }
 {
     if held <= places.len() {
         change_all(&mut places[0..held], change);

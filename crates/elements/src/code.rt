@@ -10,8 +10,8 @@ use crate::node::NodeNumber;
 use std::fmt;
 
 // What fits one content octet: an octet for each value, and the value, if any, that an octet stands for.
-// Not From and TryFrom: what is said of reading an element takes `value_in` as a function, and what those two give
-// is said by relations.
+// Not From and TryFrom: what is said of reading an element takes `value_in` as a function, and what those two
+// give is said by relations.
 pub trait Coded: Sized {
     ghost octet_of: { Self → ℕ };
 
@@ -39,8 +39,8 @@ fn either<T: Copy>(octet: u8, first: T, second: T) -> Option<T>
     Some(if octet == 1 { first } else { second })
 }
 
-// Five codes have two cases each. A trait of two cases with one impl over it would ask each code for as many lines
-// as stand here: its two cases, its numbers, and what is proved of them.
+// Five codes have two cases each. A trait of two cases with one impl over it would ask each code for as many
+// lines as stand here: its two cases, its numbers, and what is proved of them.
 
 // Why a mobile was not paged, or what became of it.
 #[derive(Clone, Copy, Debug, PartialEq, Eq, Hash)]

@@ -9,8 +9,8 @@ use vlr::vlr::{PLACES, Vlr};
 // One mobile more than there are places.
 const MOBILES: u64 = 1025;
 
-// The mobiles as they come, which is not in the order of their numbers: 7 and 1,025 have no common factor, so that
-// none comes twice.
+// The mobiles as they come, which is not in the order of their numbers: 7 and 1,025 have no common factor, so
+// that none comes twice.
 fn mobile(place: u64) -> Imsi {
     Imsi {
         digits: 15,

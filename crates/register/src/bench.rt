@@ -17,8 +17,8 @@ use words::frame::Offered;
 
 #[derive(Drop)]
 pub(crate) struct Bench {
-    // of lines, by `count`, which stays at the largest number: `enumerate` would ask for a proof that the lines end
-    // before it
+    // of lines, by `count`, which stays at the largest number: `enumerate` would ask for a proof that the
+    // lines end before it
     number: u64,
     site: Option<Site>,
     tally: Tally,

@@ -1,4 +1,5 @@
-// Reads a script, and runs one voice register over a gate on a queue: what each call answers, and each frame that it puts.
+// Reads a script, and runs one voice register over a gate on a queue: what each call answers, and each frame
+// that it puts.
 #![tactic(auto)]
 
 mod bench;

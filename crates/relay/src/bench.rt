@@ -18,8 +18,8 @@ struct Placed {
 
 #[derive(Drop)]
 pub(crate) struct Bench {
-    // of lines, by `count`, which stays at the largest number: `enumerate` would ask for a proof that the lines end
-    // before it
+    // of lines, by `count`, which stays at the largest number: `enumerate` would ask for a proof that the
+    // lines end before it
     number: u64,
     placed: Option<Placed>,
     tally: Tally,

@@ -13,8 +13,8 @@ use words::counting::count;
 
 #[derive(Drop)]
 pub(crate) struct Bench {
-    // of lines, by `count`, which stays at the largest number: `enumerate` would ask for a proof that the lines end
-    // before it
+    // of lines, by `count`, which stays at the largest number: `enumerate` would ask for a proof that the
+    // lines end before it
     number: u64,
     script: Vec<u8>,
     place: Option<Place>,

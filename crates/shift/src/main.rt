@@ -1,5 +1,5 @@
-// Reads a shift at a site, call by call: one SGSN, its voice registers, and a net that goes wrong as the shift says. Shows what each
-// call answers, each frame on its way, and at the end the SGSN's table.
+// Reads a shift at a site, call by call: one SGSN, its voice registers, and a net that goes wrong as the
+// shift says. Shows what each call answers, each frame on its way, and at the end the SGSN's table.
 #![tactic(auto)]
 
 mod bench;

@@ -23,8 +23,8 @@ pub(crate) fn node_in(word: &str) -> Option<NodeNumber> {
     Some(NodeNumber { number })
 }
 
-// The count of the digits is part of an IMSI, so that 01 and 1 are two. Any count of digits is read whose number can be held:
-// the ends say what they think of that.
+// The count of the digits is part of an IMSI, so that 01 and 1 are two. Any count of digits is read whose
+// number can be held: the ends say what they think of that.
 pub(crate) fn imsi_in(word: &str) -> Option<Imsi> {
     let value = number_in(word)?;
     let digits = u8::try_from(word.len()).ok()?;

@@ -33,8 +33,8 @@ impl fmt::Display for InWords<Result<Frame, Fault>> {
     }
 }
 
-// Octets that a carrier is given, and how the program calls that. Such as are not 11 to 64 in number are lost in
-// every carrier.
+// Octets that a carrier is given, and how the program calls that. Such as are not 11 to 64 in number are lost
+// in every carrier.
 #[derive(Clone, Copy)]
 pub struct Offered<'a> {
     pub how: &'a str,
