@@ -1,28 +1,55 @@
--- The record that a message changes is held, so that it has its place.
-use Rattle.std.proofs.Common.{◌≡◌, ℕ, true, ◌&&◌, ◌||◌, nat_lt, List, length, take, is_some, Some, None, Option, sym, ap, ◌∙◌}
-use Rattle.std.proofs.lemmas.Bool.{true≢false, and_parts}
-use Rattle.std.proofs.lemmas.Option.{none-some}
+-- The record that a message changes is held, so that it has its place; and it names no other SGSN.
+use Rattle.std.proofs.Common.{◌≡◌, true, ◌&&◌, nat_lt, is_some, Some, None, Option, sym, refl, ap, ◌∙◌}
+use Rattle.std.specs.List.{list_all}
+use Rattle.std.proofs.lemmas.Bool.{and_parts}
+use Rattle.std.proofs.lemmas.Option.{none-some, same_Some}
 use Rattle.imsi.specs.declared.Imsi.{Imsi}
 use Rattle.messages.specs.declared.message.Message.{Message}
 use Rattle.messages.specs.Lawful.{lawful_message}
 use Rattle.frames.specs.declared.frame.Frame.{Frame}
 use Rattle.frames.specs.Format.{lawful_frame, lawful_nodes, lawful_stamp}
-use Rattle.directory.specs.Lookup.{at, fits, Stored}
 use Rattle.directory.proofs.Lookups.{at-whose}
+use Rattle.directory.proofs.Everyone.{all_at}
 use Rattle.messages.specs.Mobiles.{mobile_of}
 use Rattle.vlr.specs.declared.record.Record.{Record}
+use Rattle.vlr.specs.Records.{names_its}
+use Rattle.vlr.specs.Moves.{message_move}
+use Rattle.vlr.specs.Laws.{record_at}
 use Rattle.vlr.specs.State.{State, whose}
 use Rattle.vlr.specs.Delivering.{found, noted}
+use Rattle.vlr.proofs.ByMobile.{moved-whose}
+use Rattle.vlr.proofs.Moved.{moved, move_is}
+use Rattle.vlr.proofs.Names.{moved_names}
 
-its_record : (s : State) (o : Option Imsi) (r : Record) → found s o ≡ Some r → at whose s.records (whose r) ≡ Some r
-its_record s None r e = absurd (none-some r e)
-its_record s (Some i) r e = (λ t. at whose s.records (at-whose whose s.records i r e t)) ∙ e
+found_names : (s : State) (o : Option Imsi) (r : Record) → list_all (names_its s.sgsn) s.records ≡ true → found s o ≡ Some r → names_its s.sgsn r ≡ true
+found_names s None r all e = absurd (none-some r e)
+found_names s (Some i) r all e = all_at whose (names_its s.sgsn) s.records i r all e
 
-pub placed : {X : Type 0} (s : State) (m : Message) (r new : Record) (n : ℕ) (ps qs : List Record) → noted s m ≡ Some r → whose new ≡ whose r → s.records ≡ take n ps → Stored whose n new ps qs None → X
-placed s m r new n ps qs e same is st =
-    let there : at whose (take n ps) (whose new) ≡ Some r = (λ t. at whose (sym is t) (same t)) ∙ its_record s (mobile_of m) r e in
-    let fit : fits whose (length ps) (take n ps) (whose new) ≡ true = ap (λ o. is_some o || nat_lt (length (take n ps)) (length ps)) there in
-    absurd (true≢false (sym fit ∙ st.0))
+found_held : (s : State) (o : Option Imsi) (r : Record) → found s o ≡ Some r → is_some (record_at s (whose r)) ≡ true
+found_held s None r e = absurd (none-some r e)
+found_held s (Some i) r e = ap (λ j. is_some (record_at s j)) (at-whose whose s.records i r e) ∙ ap is_some e
+
+module _ (s : State) (m : Message) (r : Record) where
+  -- the record before
+  abbrev Before : Type 0
+  Before = (b : Record) × (noted s m ≡ Some b) × (moved s.sgsn m b ≡ r)
+
+  before_in : (o : Option Record) → noted s m ≡ o → (message_move s.sgsn m o).0 ≡ Some r → Before
+  before_in None e k = absurd (none-some r (sym (ap (λ x. x.0) (move_is s.sgsn m None)) ∙ k))
+  before_in (Some b) e k = (b, e, same_Some _ _ (sym (ap (λ x. x.0) (move_is s.sgsn m (Some b))) ∙ k))
+
+  before : (message_move s.sgsn m (noted s m)).0 ≡ Some r → Before
+  before k = before_in (noted s m) refl k
+
+  pub moved_held : (message_move s.sgsn m (noted s m)).0 ≡ Some r → is_some (record_at s (whose r)) ≡ true
+  moved_held k =
+      let b = before k in
+      ap (λ x. is_some (record_at s x)) (sym (ap whose b.2) ∙ moved-whose s.sgsn m b.0) ∙ found_held s (mobile_of m) b.0 b.1
+
+  pub moved_its : list_all (names_its s.sgsn) s.records ≡ true → (message_move s.sgsn m (noted s m)).0 ≡ Some r → names_its s.sgsn r ≡ true
+  moved_its all k =
+      let b = before k in
+      ap (names_its s.sgsn) (sym b.2) ∙ moved_names s.sgsn m b.0 (found_names s (mobile_of m) b.0 all b.1)
 
 -- a lawful frame has a lawful message
 pub message_lawful : (f : Frame) → lawful_frame f ≡ true → lawful_message f.message ≡ true

@@ -1,5 +1,7 @@
 pub mod ByMobile
 pub mod Delivers
 pub mod Enrolls
-pub mod Replies
 pub mod Granted
+pub mod Moved
+pub mod Names
+pub mod Replies

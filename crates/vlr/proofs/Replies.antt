@@ -8,10 +8,11 @@ use Rattle.elements.specs.declared.area.LocationArea.{LocationArea}
 use Rattle.elements.specs.declared.code.ImsiDetachType.{ImsiDetachType}
 use Rattle.elements.specs.declared.code.ImsiDetachType.TheVariants.{Unacknowledged, Acknowledged}
 use Rattle.messages.specs.declared.message.Message.{Message}
-use Rattle.messages.specs.declared.message.Message.TheVariants.{Paging, PagingFailure, MobileStatus, LuRequest, LuAccept, LuReject, Reset, ResetAcknowledge, GprsDetachIndication, GprsDetachAcknowledge, ImsiDetachIndication, ImsiDetachAcknowledge}
+use Rattle.messages.specs.declared.message.Message.TheVariants.{LuRequest, LuAccept, LuReject, GprsDetachIndication, ImsiDetachIndication}
 use Rattle.messages.specs.Lawful.{lawful_message, lawful_mobile, lawful_area}
 use Rattle.vlr.specs.declared.record.Record.{Record}
-use Rattle.vlr.specs.Moves.{answer_to, cause_for, detach_answer}
+use Rattle.vlr.specs.Moves.{detach_answer}
+use Rattle.vlr.proofs.Moved.{answer_to, cause_for}
 
 update_lawful : (b : Bool) (i : Imsi) (w : LocationArea) (c : ℕ) → eqb c 0 ≡ b → lawful_mobile i ≡ true → lawful_area w ≡ true → lawful_message (cond b (LuAccept i w) (LuReject i (record { number = c }))) ≡ true
 update_lawful true i w c e m a = and_from _ _ m a
@@ -25,12 +26,4 @@ pub lawful_answer : (r : Option Record) (m a : Message) → lawful_message m ≡
 lawful_answer r (LuRequest i u o w c) a l e = ap lawful_message (sym (same_Some _ _ e)) ∙ update_lawful (eqb (cause_for r) 0) i w (cause_for r) refl (and_parts _ _ l).0 (and_parts _ _ (and_parts _ _ l).1).1
 lawful_answer r (GprsDetachIndication i t) a l e = ap lawful_message (sym (same_Some _ _ e)) ∙ l
 lawful_answer r (ImsiDetachIndication i t) a l e = detach_lawful i t a l e
-lawful_answer r (Paging i t c) a l e = absurd (none-some a e)
-lawful_answer r (PagingFailure i c) a l e = absurd (none-some a e)
-lawful_answer r (MobileStatus i c) a l e = absurd (none-some a e)
-lawful_answer r (LuAccept i w) a l e = absurd (none-some a e)
-lawful_answer r (LuReject i c) a l e = absurd (none-some a e)
-lawful_answer r (Reset n) a l e = absurd (none-some a e)
-lawful_answer r (ResetAcknowledge n) a l e = absurd (none-some a e)
-lawful_answer r (GprsDetachAcknowledge i t) a l e = absurd (none-some a e)
-lawful_answer r (ImsiDetachAcknowledge i t) a l e = absurd (none-some a e)
+lawful_answer r m a l e = absurd (none-some a e)

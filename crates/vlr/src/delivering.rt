@@ -1,14 +1,16 @@
 // Taking a frame from the SGSN.
-ghost use Rattle.std.specs.Prelude.{◌≡◌, true, length};
+ghost use Rattle.std.specs.Prelude.{◌≡◌, true, is_some};
+ghost use Rattle.directory.specs.Lookup.{stored};
 ghost use Rattle.messages.specs.Lawful.{lawful_message};
 ghost use Rattle.station.specs.Sends.{HasStamps, Sent};
-ghost use Rattle.vlr.specs.State.{state_of};
-ghost use Rattle.vlr.specs.Moves.{answer_to};
-ghost use Rattle.vlr.specs.Delivering.{noted, answering, answers_to, with_noted, with_moved, with_last, taken, Delivers};
-ghost use Rattle.vlr.specs.Laws.{DeliversByMobile};
+ghost use Rattle.vlr.specs.Delivering.{noted, answered_by, taken_by, delivery};
+ghost use Rattle.vlr.specs.Laws.{record_at, DeliversByMobile};
+ghost use Rattle.vlr.specs.Moves.{message_move};
+ghost use Rattle.vlr.specs.Records.{names_its};
+ghost use Rattle.vlr.specs.State.{state_of, whose, with_records, Does};
 
-use crate::moves::{answer_to, moved};
-use crate::record::{Doubt, Record};
+use crate::moves::message_move;
+use crate::record::{DoubtAt, Record};
 use crate::vlr::Vlr;
 use carrier::carrier::Carrier;
 use carrier::in_order::InOrder;
@@ -27,44 +29,35 @@ impl Vlr {
         look(&self.places, self.held, message.mobile()?)
     }
 
-    // Keeps what the message makes of the record of its mobile.
-    fn note(&mut self, message: Message)
-        ensures { state_of self.new ≡ with_noted (state_of self.old) message }
+    // Keeps a record over the one of its mobile.
+    fn keep(&mut self, record: Record)
+        requires held { is_some (record_at (state_of self.old) (whose «record»)) ≡ true }
+        requires names { names_its self.old.sgsn «record» ≡ true }
+        ensures { state_of self.new
+            ≡ with_records (state_of self.old) (stored whose «record» (state_of self.old).records) }
     {
-        let Some(before) = self.record_of(message) else {
-            return;
-        };
-        if let Some(held) = store(
-            &mut self.places,
-            self.held,
-            moved(before, self.sgsn, message),
-        ) {
+        if let Some(held) = store(&mut self.places, self.held, record) {
             self.held = held;
         }
     }
 
-    // What a frame from the SGSN does here, but for its answer.
-    fn move_by(&mut self, frame: Frame)
-        ensures { state_of self.new ≡ with_moved (state_of self.old) frame }
-    {
-        match frame.message {
-            Message::Reset { .. } => {
-                change_each(&mut self.places, self.held, &Doubt {});
-                self.row = self.row.reset_taken(frame.stamp);
-            }
-            Message::ResetAcknowledge { .. } => self.row = self.row.acknowledged(frame.answers),
-            message => self.note(message),
-        }
-    }
-
-    // Answers a frame, where the record of its mobile was this before it.
-    fn answer<C: InOrder>(&mut self, carrier: &mut C, before: Option<Record>, frame: Frame)
+    // Takes a message about a mobile: keeps what that makes of its record, and answers.
+    fn take_message<C: InOrder>(&mut self, carrier: &mut C, frame: Frame)
         requires lawful { lawful_message frame.message ≡ true }
         requires stamps { HasStamps 1 self.old.sender }
-        ensures state { state_of self.new ≡ with_last (state_of self.old) (length (answering self.old.sgsn.node frame.stamp (answer_to before frame.message))) }
-        ensures sent { Sent C.Carrier.puts self.old.sender.own self.old.sender.last (answering self.old.sgsn.node frame.stamp (answer_to before frame.message)) carrier.old carrier.new }
+        ensures state { let s = state_of self.old in
+            let m = message_move s.sgsn frame.message (noted s frame.message) in
+            state_of self.new ≡ (answered_by s frame m).after }
+        ensures sent { let s = state_of self.old in
+            let m = message_move s.sgsn frame.message (noted s frame.message) in
+            Sent C.Carrier.puts s.own s.last (answered_by s frame m).sends carrier.old carrier.new }
     {
-        if let Some(message) = answer_to(before, frame.message) {
+        let before = self.record_of(frame.message);
+        let (after, answer) = message_move(before, self.sgsn, frame.message);
+        if let Some(record) = after {
+            self.keep(record);
+        }
+        if let Some(message) = answer {
             let outgoing = Outgoing {
                 to: self.sgsn.node,
                 answers: frame.stamp,
@@ -74,22 +67,31 @@ impl Vlr {
         }
     }
 
-    // Takes a frame from the SGSN: moves by it, and answers it.
+    // Takes a frame from the SGSN that names no other.
     fn take<C: InOrder>(&mut self, carrier: &mut C, frame: Frame)
         requires lawful { lawful_message frame.message ≡ true }
         requires stamps { HasStamps 1 self.old.sender }
-        ensures state { state_of self.new ≡ taken (state_of self.old) frame }
-        ensures sent { Sent C.Carrier.puts self.old.sender.own self.old.sender.last (answers_to (state_of self.old) frame) carrier.old carrier.new }
+        ensures state { let s = state_of self.old in
+            state_of self.new ≡ (taken_by s frame frame.message).after }
+        ensures sent { let s = state_of self.old in
+            Sent C.Carrier.puts s.own s.last (taken_by s frame frame.message).sends carrier.old carrier.new }
     {
-        let before = self.record_of(frame.message);
-        self.move_by(frame);
-        self.answer(carrier, before, frame);
+        match frame.message {
+            Message::Reset { .. } => {
+                change_each(&mut self.places, self.held, &DoubtAt { sgsn: self.sgsn });
+                self.row.take_reset(frame.stamp);
+            }
+            Message::ResetAcknowledge { .. } => self.row.take_acknowledgement(frame.answers),
+            _ => self.take_message(carrier, frame),
+        }
     }
 
     // Takes once from the carrier.
     pub fn deliver<C: InOrder>(&mut self, carrier: &mut C) -> Result<Delivery, Refusal>
-        ensures delivers { Delivers C.Carrier.takes C.Carrier.puts result (state_of self.old) carrier.old (state_of self.new) carrier.new }
-        ensures by_mobile { DeliversByMobile C.Carrier.takes (state_of self.old) carrier.old (state_of self.new) }
+        ensures delivers { Does C.Carrier.takes C.Carrier.puts delivery
+            result self.old carrier.old self.new carrier.new }
+        ensures by_mobile { DeliversByMobile C.Carrier.takes
+            (state_of self.old) carrier.old (state_of self.new) }
     {
         if self.sender.is_worn() {
             return Err(Refusal::Denied(Denial::Worn));

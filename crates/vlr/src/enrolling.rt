@@ -1,7 +1,7 @@
 // Enrolling a mobile.
 ghost use Rattle.std.specs.Prelude.{◌≡◌};
 ghost use Rattle.vlr.specs.State.{state_of, Decides};
-ghost use Rattle.vlr.specs.Enrolling.{enrolled, enrolling};
+ghost use Rattle.vlr.specs.Enrolling.{enrolled, enrol_plan};
 ghost use Rattle.vlr.specs.Laws.{ByMobile, by_enrolment};
 
 use crate::record::Record;
@@ -23,8 +23,9 @@ fn enrolled(before: Option<Record>, imsi: Imsi, home_cause: u8) -> Record
 impl Vlr {
     // Sets what a mobile's home says of it, and gives it a record if it has none.
     pub fn enrol(&mut self, imsi: Imsi, home_cause: u8) -> Result<(), Denial>
-        ensures decided { Decides (λ s. enrolling s imsi home_cause) result self.old self.new }
-        ensures by_mobile { ByMobile (state_of self.old) (state_of self.new) (by_enrolment (state_of self.old) imsi home_cause) }
+        ensures decided { Decides (λ s. enrol_plan s imsi home_cause) result self.old self.new }
+        ensures by_mobile { ByMobile (state_of self.old) (state_of self.new)
+            (by_enrolment (state_of self.old) imsi home_cause) }
     {
         if self.sender.is_worn() {
             return Err(Denial::Worn);

@@ -1,6 +1,7 @@
 // Paging a mobile by way of its SGSN.
+ghost use Rattle.station.specs.Calls.{AtOnce};
 ghost use Rattle.vlr.specs.State.{Does};
-ghost use Rattle.vlr.specs.Paging.{paging};
+ghost use Rattle.vlr.specs.Paging.{page_plan};
 
 use crate::vlr::Vlr;
 use carrier::carrier::Carrier;
@@ -24,7 +25,8 @@ impl Vlr {
         tmsi: Option<u32>,
         channel: Option<u8>,
     ) -> Result<(), Denial>
-        ensures { Does C.Carrier.puts (λ s. paging s imsi tmsi channel) result self.old carrier.old self.new carrier.new }
+        ensures { Does C.Carrier.takes C.Carrier.puts (λ s. AtOnce (page_plan s imsi tmsi channel))
+            result self.old carrier.old self.new carrier.new }
     {
         if self.sender.is_worn() {
             return Err(Denial::Worn);

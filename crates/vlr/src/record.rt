@@ -1,6 +1,7 @@
 // What a VLR keeps of a mobile.
 ghost use Rattle.std.specs.Prelude.{◌≡◌};
-ghost use Rattle.vlr.specs.Records.{new_record, with_home_cause, confirmed, unmarked, imsi_detached, doubtful};
+ghost use Rattle.vlr.specs.Records.{new_record, with_home_cause, with_mark, confirmed, unmarked, imsi_detached};
+ghost use Rattle.vlr.specs.Records.{doubtful, doubtful_at};
 
 use directory::record::{Change, OfMobile};
 use elements::node::SgsnNumber;
@@ -45,14 +46,20 @@ impl Record {
         Record { home_cause, ..self }
     }
 
+    // Every change of a mark is made here.
+    fn with_mark(self, mark: Mark<SgsnNumber>) -> Record
+        ensures { result ≡ with_mark mark self }
+    {
+        Record { mark, ..self }
+    }
+
     // The mobile is attached here, and this SGSN serves it.
     pub fn confirmed(self, sgsn: SgsnNumber) -> Record
         ensures { result ≡ confirmed self sgsn }
     {
         Record {
             attached: true,
-            mark: Mark::Confirmed(sgsn),
-            ..self
+            ..self.with_mark(Mark::Confirmed(sgsn))
         }
     }
 
@@ -60,8 +67,7 @@ impl Record {
     pub fn unmarked(self) -> Record
         ensures { result ≡ unmarked self }
     {
-        let mark = Mark::None;
-        Record { mark, ..self }
+        self.with_mark(Mark::None)
     }
 
     // The mobile is detached here, too.
@@ -78,14 +84,22 @@ impl Record {
     pub fn doubtful(self) -> Record
         ensures { result ≡ doubtful self }
     {
-        Record {
-            mark: self.mark.doubted(),
-            ..self
+        self.with_mark(self.mark.doubted())
+    }
+
+    // This SGSN is sure no more.
+    pub fn doubtful_at(self, sgsn: SgsnNumber) -> Record
+        ensures { result ≡ doubtful_at sgsn self }
+    {
+        if self.mark == Mark::Confirmed(sgsn) {
+            self.doubtful()
+        } else {
+            self
         }
     }
 }
 
-// After a loss here, or a loss that the SGSN tells of: every record of its table is doubtful.
+// After a loss here: no record is sure of its SGSN.
 #[derive(Clone, Copy, Debug, PartialEq, Eq)]
 pub struct Doubt {}
 
@@ -94,5 +108,19 @@ impl Change<Record> for Doubt {
 
     fn change(&self, before: Record) -> Record {
         before.doubtful()
+    }
+}
+
+// After a loss that this SGSN told of: no record is sure of it.
+#[derive(Clone, Copy, Debug, PartialEq, Eq)]
+pub struct DoubtAt {
+    pub sgsn: SgsnNumber,
+}
+
+impl Change<Record> for DoubtAt {
+    ghost to = { λ d r. doubtful_at d.sgsn r };
+
+    fn change(&self, before: Record) -> Record {
+        before.doubtful_at(self.sgsn)
     }
 }
