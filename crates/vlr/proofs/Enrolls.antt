@@ -1,5 +1,5 @@
 -- The record that is enrolled is the mobile's, and what a store of it means for the questions of an enrolment.
-use Rattle.std.proofs.Common.{◌≡◌, ℕ, not, true, false, List, [], length, take, None, Some, Option, Err, Ok, sym, refl, ap, ◌∙◌}
+use Rattle.std.proofs.Common.{◌≡◌, ℕ, not, true, false, List, [], length, take, None, Some, Option, Err, Ok, sym, refl, ◌∙◌}
 use Rattle.imsi.specs.declared.Imsi.{Imsi}
 use Rattle.imsi.specs.Spelling.{lawful_imsi}
 use Rattle.directory.specs.Lookup.{at, fits, Stored}

@@ -1,5 +1,5 @@
 -- What a message makes of a record that is held, and what answers it, each by itself; and what a frame does, by that.
-use Rattle.std.proofs.Common.{◌≡◌, ℕ, ◌+◌, Bool, true, false, if◌then◌else◌, ◌==◌, cond, length, Some, None, Option, refl, ap, ◌∙◌, arith}
+use Rattle.std.proofs.Common.{◌≡◌, ℕ, ◌+◌, Bool, true, false, if◌then◌else◌, ◌==◌, cond, length, Some, None, Option, refl, ap, arith}
 use Rattle.std.proofs.lemmas.Bool.{cond-true, cond-false}
 use Rattle.std.specs.Option.{option_map}
 use Rattle.imsi.specs.declared.Imsi.{Imsi}
@@ -13,7 +13,7 @@ use Rattle.station.specs.Calls.{quietly}
 use Rattle.station.specs.Receiving.{is_from}
 use Rattle.vlr.specs.declared.record.Record.{Record}
 use Rattle.vlr.specs.Records.{confirmed, unmarked, imsi_detached}
-use Rattle.vlr.specs.Moves.{unknown_cause, detach_answer, update_move, message_move}
+use Rattle.vlr.specs.Moves.{unknown_cause, detach_answer, message_move}
 use Rattle.vlr.specs.Delivering as deliver
 use Rattle.vlr.specs.Delivering.{noted, taken_by, frame_plan}
 use Rattle.vlr.specs.State.{State}

@@ -1,5 +1,5 @@
 -- What a frame does at a VLR.
-use Rattle.std.specs.Prelude.{ℕ, ◌+◌, if◌then◌else◌, List, [], ◌∷◌, map, length, Some, None, Option, Result}
+use Rattle.std.specs.Prelude.{◌+◌, if◌then◌else◌, List, [], ◌∷◌, map, length, Some, None, Option}
 use Rattle.imsi.specs.declared.Imsi.{Imsi}
 use Rattle.frames.specs.declared.frame.Frame.{Frame}
 use Rattle.messages.specs.declared.message.Message.{Message}
@@ -45,6 +45,10 @@ answered_by s f m = record {
   sends = answer_to s f m.1;
 }
 
+-- what a message about a mobile does
+abbrev pub message_plan : State → Frame → Message → Plan Delivery State
+message_plan s f m = answered_by s f (message_move s.sgsn m (noted s m))
+
 -- what a frame of its SGSN's does that names no other
 abbrev pub taken_by : State → Frame → Message → Plan Delivery State
 taken_by s f (Reset e) = quietly (record s {
@@ -52,7 +56,7 @@ taken_by s f (Reset e) = quietly (record s {
   records = map (doubtful_at s.sgsn) s.records;
 })
 taken_by s f (ResetAcknowledge e) = quietly (record s { row = acknowledged s.row f.answers })
-taken_by s f m = answered_by s f (message_move s.sgsn m (noted s m))
+taken_by s f m = message_plan s f m
 
 -- any other frame has no effect
 abbrev pub frame_plan : State → Frame → Plan Delivery State

@@ -1,4 +1,8 @@
 // The calls of a VLR as values, and what they are answered.
+ghost use Rattle.std.specs.Prelude.{◌≡◌};
+ghost use Rattle.station.specs.declared.receiving.Refusal.TheVariants.{Denied};
+ghost use Rattle.station.specs.Calls.{handed_on};
+ghost use Rattle.vlr.specs.declared.call.VlrAnswer.TheVariants as answer;
 ghost use Rattle.vlr.specs.Calls.{call_course};
 ghost use Rattle.vlr.specs.State.{Does};
 
@@ -35,18 +39,16 @@ pub enum VlrAnswer {
 }
 
 // Of a call that has no more to tell than that it was made.
-fn done(made: Result<(), Denial>) -> Result<VlrAnswer, Refusal> {
+fn done(made: Result<(), Denial>) -> Result<VlrAnswer, Refusal>
+    ensures { result ≡ handed_on (λ u. answer.Done) Denied made }
+{
     made?;
     Ok(VlrAnswer::Done)
 }
 
 impl Vlr {
     // Makes the call, whichever it is.
-    pub fn make<C: InOrder>(
-        &mut self,
-        carrier: &mut C,
-        call: VlrCall,
-    ) -> Result<VlrAnswer, Refusal>
+    pub fn make<C: InOrder>(&mut self, carrier: &mut C, call: VlrCall) -> Result<VlrAnswer, Refusal>
         ensures { Does C.Carrier.takes C.Carrier.puts (call_course call)
             result self.old carrier.old self.new carrier.new }
     {

@@ -3,9 +3,8 @@ ghost use Rattle.std.specs.Prelude.{◌≡◌, true, is_some};
 ghost use Rattle.directory.specs.Lookup.{stored};
 ghost use Rattle.messages.specs.Lawful.{lawful_message};
 ghost use Rattle.station.specs.Sends.{HasStamps, Sent};
-ghost use Rattle.vlr.specs.Delivering.{noted, answered_by, taken_by, delivery};
+ghost use Rattle.vlr.specs.Delivering.{noted, message_plan, taken_by, delivery};
 ghost use Rattle.vlr.specs.Laws.{record_at, DeliversByMobile};
-ghost use Rattle.vlr.specs.Moves.{message_move};
 ghost use Rattle.vlr.specs.Records.{names_its};
 ghost use Rattle.vlr.specs.State.{state_of, whose, with_records, Does};
 
@@ -30,13 +29,13 @@ impl Vlr {
     }
 
     // Keeps a record over the one of its mobile.
-    fn keep(&mut self, record: Record)
-        requires held { is_some (record_at (state_of self.old) (whose «record»)) ≡ true }
-        requires names { names_its self.old.sgsn «record» ≡ true }
-        ensures { state_of self.new
-            ≡ with_records (state_of self.old) (stored whose «record» (state_of self.old).records) }
+    fn keep(&mut self, changed: Record)
+        requires held { is_some (record_at (state_of self.old) (whose changed)) ≡ true }
+        requires names { names_its self.old.sgsn changed ≡ true }
+        ensures { let s = state_of self.old in
+            state_of self.new ≡ with_records s (stored whose changed s.records) }
     {
-        if let Some(held) = store(&mut self.places, self.held, record) {
+        if let Some(held) = store(&mut self.places, self.held, changed) {
             self.held = held;
         }
     }
@@ -46,11 +45,10 @@ impl Vlr {
         requires lawful { lawful_message frame.message ≡ true }
         requires stamps { HasStamps 1 self.old.sender }
         ensures state { let s = state_of self.old in
-            let m = message_move s.sgsn frame.message (noted s frame.message) in
-            state_of self.new ≡ (answered_by s frame m).after }
+            state_of self.new ≡ (message_plan s frame frame.message).after }
         ensures sent { let s = state_of self.old in
-            let m = message_move s.sgsn frame.message (noted s frame.message) in
-            Sent C.Carrier.puts s.own s.last (answered_by s frame m).sends carrier.old carrier.new }
+            Sent C.Carrier.puts s.own s.last (message_plan s frame frame.message).sends
+            carrier.old carrier.new }
     {
         let before = self.record_of(frame.message);
         let (after, answer) = message_move(before, self.sgsn, frame.message);
@@ -74,7 +72,8 @@ impl Vlr {
         ensures state { let s = state_of self.old in
             state_of self.new ≡ (taken_by s frame frame.message).after }
         ensures sent { let s = state_of self.old in
-            Sent C.Carrier.puts s.own s.last (taken_by s frame frame.message).sends carrier.old carrier.new }
+            Sent C.Carrier.puts s.own s.last (taken_by s frame frame.message).sends
+            carrier.old carrier.new }
     {
         match frame.message {
             Message::Reset { .. } => {

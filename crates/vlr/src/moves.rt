@@ -1,4 +1,4 @@
-// What a message from the SGSN makes of the record of the mobile that it is about, and the message that answers it.
+// What a message from the SGSN makes of the record of its mobile, and the message that answers it.
 ghost use Rattle.std.specs.Prelude.{◌≡◌};
 ghost use Rattle.vlr.specs.Moves.{reject, update_move, detach_answer, message_move};
 
@@ -49,7 +49,8 @@ fn detach_answer(imsi: Imsi, detach: ImsiDetachType) -> Option<Message>
     }
 }
 
-// The record after a message from this SGSN, where the one before was this, or none; and the message that answers.
+// The record after a message from this SGSN, and the message that answers it. The record before is that of the
+// mobile that the message is about, if one is held.
 pub fn message_move(
     before: Option<Record>,
     sgsn: SgsnNumber,

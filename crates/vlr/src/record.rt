@@ -1,7 +1,7 @@
 // What a VLR keeps of a mobile.
 ghost use Rattle.std.specs.Prelude.{◌≡◌};
-ghost use Rattle.vlr.specs.Records.{new_record, with_home_cause, with_mark, confirmed, unmarked, imsi_detached};
-ghost use Rattle.vlr.specs.Records.{doubtful, doubtful_at};
+ghost use Rattle.vlr.specs.Records.{new_record, with_home_cause, with_mark};
+ghost use Rattle.vlr.specs.Records.{confirmed, unmarked, imsi_detached, doubtful, doubtful_at};
 
 use directory::record::{Change, OfMobile};
 use elements::node::SgsnNumber;

@@ -1,11 +1,13 @@
-use Rattle.std.proofs.Common.{◌≡◌, true, false, cond, Some, Ok, Err, sym, ap, ◌∙◌, subst, rules}
+use Rattle.std.proofs.Common.{◌≡◌, true, false, cond, Some, Ok, Err, Result, sym, ap, ◌∙◌, subst, rules}
 use Rattle.station.specs.declared.denial.Denial.TheVariants as denial
+use Rattle.station.specs.declared.receiving.Delivery.{Delivery}
 use Rattle.station.specs.declared.receiving.Delivery.TheVariants as order
+use Rattle.station.specs.declared.receiving.Refusal.{Refusal}
 use Rattle.station.specs.declared.receiving.Refusal.TheVariants.{Denied}
 use Rattle.station.specs.Calls.{AtOnce, Taking, Does, Done, by_taken}
 use Rattle.station.specs.Receiving.{is_from, Received}
 use Rattle.station.specs.Sends.{is_worn}
-use Rattle.vlr.specs.Delivering.{frame_plan}
+use Rattle.vlr.specs.Delivering.{taken_by, frame_plan}
 use Rattle.vlr.specs.Laws.{record_at, by_message, TakenByMobile}
 use Rattle.vlr.specs.State.{state_of, own_of, last_of}
 use Rattle.vlr.proofs.ByMobile.{taken-at}
@@ -31,11 +33,13 @@ returns-then-is_from g c =
     let fresh : is_worn s.last ≡ false = search rules in
     let from : is_from s.sgsn.node f ≡ true = search rules in
     let received = subst (λ r. Received takes s.own r before between) (c.in-Some.is ∙ ap Some c.in_ok-frame.was) c.take_frame.ensures.received in
-    let done = subst (λ p. Done own_of last_of puts (Ok p) (Ok order.Done) s between t after) (sym (plan_from s f from))
-    (ap Ok (sym (taken_answer s f f.message)), c.take.ensures.state, c.take.ensures.sent) in
+    let result : Result Delivery Refusal = Ok order.Done in
+    let answer : result ≡ Ok (taken_by s f f.message).answer = (λ j. Ok (sym (taken_answer s f f.message) j)) in
+    let done = subst (λ p. Done own_of last_of puts (Ok p) result s between t after) (sym (plan_from s f from))
+    (answer, c.take.ensures.state, c.take.ensures.sent) in
     record {
       delivers = subst
-          (λ b. Does own_of last_of takes puts (cond b (AtOnce (Err (Denied denial.Worn))) (Taking (by_taken frame_plan s))) (Ok order.Done) s before t after)
+          (λ b. Does own_of last_of takes puts (cond b (AtOnce (Err (Denied denial.Worn))) (Taking (by_taken frame_plan s))) result s before t after)
           (sym fresh)
           (record { got = Some (Ok f); between = between; received = received; done = done });
       by_mobile = subst (λ b. TakenByMobile b takes s before t) (sym fresh) (record {

@@ -1,7 +1,7 @@
 use Rattle.std.proofs.Common.{◌≡◌, true, false, take, None, Err, Ok, sym, refl, ap, ◌∙◌, subst, rules, arith}
 use Rattle.std.specs.List.{list_all}
 use Rattle.imsi.specs.Spelling.{lawful_imsi}
-use Rattle.directory.specs.Lookup.{at, Held, Stored}
+use Rattle.directory.specs.Lookup.{Held, Stored}
 use Rattle.directory.proofs.Everyone.{all_stored}
 use Rattle.station.specs.Sends.{is_worn}
 use Rattle.station.specs.declared.denial.Denial.TheVariants as denial

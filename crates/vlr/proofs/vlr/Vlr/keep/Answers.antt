@@ -17,4 +17,4 @@ invariant_of-self-clause-marks c =
     let v = c.args.self.now in
     let held : Held whose v.held v.places = (omega (arith, v.few, v.all), v.rising) in
     ap (list_all (names_its v.sgsn)) (c.in-Some.ensures held).2
-    ∙ all_stored whose (names_its v.sgsn) c.args.record (take v.held v.places) v.marks c.requires.names
+    ∙ all_stored whose (names_its v.sgsn) c.args.changed (take v.held v.places) v.marks c.requires.names

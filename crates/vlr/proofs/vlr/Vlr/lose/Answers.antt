@@ -1,4 +1,4 @@
-use Rattle.std.proofs.Common.{refl, arith}
+use Rattle.std.proofs.Common.{◌≤◌, length, refl, arith}
 use Rattle.vlr.specs.Records.{doubtful}
 use Rattle.vlr.proofs.Names.{doubtful_names, changed_names}
 use Rattle.vlr.proofs.vlr.Vlr.lose.Goals as goal
@@ -11,5 +11,5 @@ invariant_of-self-2-clause-rising g c =
 pub invariant_of-self-2-clause-marks : goal.invariant_of-self-2-clause-marks
 invariant_of-self-2-clause-marks g c =
     let v = c.args.self.now in
-    let few = omega (arith, v.few, v.all) in
+    let few : v.held ≤ length v.places = omega (arith, v.few, v.all) in
     changed_names v.sgsn doubtful v.held v.places _ (doubtful_names v.sgsn) few (c.change_each.ensures.places few) v.marks

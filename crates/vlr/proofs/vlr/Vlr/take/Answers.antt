@@ -1,4 +1,4 @@
-use Rattle.std.proofs.Common.{arith}
+use Rattle.std.proofs.Common.{◌≤◌, length, arith}
 use Rattle.vlr.specs.Records.{doubtful_at}
 use Rattle.vlr.proofs.ByMobile.{doubtful-whose}
 use Rattle.vlr.proofs.Names.{doubtful_at_names, changed_names}
@@ -12,5 +12,5 @@ invariant_of-self-clause-rising g c =
 pub invariant_of-self-clause-marks : goal.invariant_of-self-clause-marks
 invariant_of-self-clause-marks g c =
     let v = c.args.self.now in
-    let few = omega (arith, v.few, v.all) in
+    let few : v.held ≤ length v.places = omega (arith, v.few, v.all) in
     changed_names v.sgsn (doubtful_at v.sgsn) v.held v.places _ (doubtful_at_names v.sgsn) few (c.change_each.ensures.places few) v.marks
