@@ -1,7 +1,11 @@
 // The calls of a site as plain values, and what they are answered.
+ghost use Rattle.std.specs.Prelude.{◌≡◌};
+ghost use Rattle.law.specs.Counts.{accepted};
+
 use elements::node::{SgsnNumber, VlrNumber};
 use sgsn::call::{SgsnAnswer, SgsnCall};
 use station::receiving::Refusal;
+use std::fmt;
 use vlr::call::{VlrAnswer, VlrCall};
 
 // A call names its end by that end's own kind of number.
@@ -17,4 +21,29 @@ pub enum Answer {
     Vlr(Result<VlrAnswer, Refusal>),
     // no such node is here
     NoSuchNode,
+}
+
+impl Answer {
+    // The call was not denied, and its node is here: so it was made, if only to find that what came is no frame.
+    pub fn is_accepted(self) -> bool
+        ensures { result ≡ accepted self }
+    {
+        !matches!(
+            self,
+            Answer::Sgsn(Err(Refusal::Denied(_)))
+                | Answer::Vlr(Err(Refusal::Denied(_)))
+                | Answer::NoSuchNode
+        )
+    }
+}
+
+impl fmt::Display for Answer {
+    fn fmt<W: fmt::Write>(&self, f: &mut fmt::Formatter<W>) -> fmt::Result {
+        match self {
+            Answer::Sgsn(Ok(answer)) => write!(f, "{answer}"),
+            Answer::Vlr(Ok(answer)) => write!(f, "{answer}"),
+            Answer::Sgsn(Err(refusal)) | Answer::Vlr(Err(refusal)) => write!(f, "{refusal}"),
+            Answer::NoSuchNode => f.write_str("no such node here"),
+        }
+    }
 }

@@ -14,6 +14,7 @@ use context::kind::Request;
 use imsi::Imsi;
 use station::denial::Denial;
 use station::receiving::{Delivery, Refusal};
+use std::fmt;
 
 // Numbers and codes are as they come from outside: the SGSN refuses what is none.
 #[derive(Clone, Copy, Debug, PartialEq, Eq)]
@@ -37,6 +38,16 @@ pub enum SgsnAnswer {
     Verdict(Verdict),
     // what a delivery brought about
     Delivered(Delivery),
+}
+
+impl fmt::Display for SgsnAnswer {
+    fn fmt<W: fmt::Write>(&self, f: &mut fmt::Formatter<W>) -> fmt::Result {
+        match self {
+            SgsnAnswer::Done => f.write_str("accepted"),
+            SgsnAnswer::Verdict(verdict) => write!(f, "{verdict}"),
+            SgsnAnswer::Delivered(delivery) => write!(f, "{delivery}"),
+        }
+    }
 }
 
 // Of a call that has no more to tell than that it was made.

@@ -12,6 +12,7 @@ use carrier::in_order::InOrder;
 use imsi::Imsi;
 use station::denial::Denial;
 use station::receiving::{Delivery, Refusal};
+use std::fmt;
 
 // Numbers and codes are as they come from outside: the VLR refuses what is none.
 #[derive(Clone, Copy, Debug, PartialEq, Eq)]
@@ -36,6 +37,15 @@ pub enum VlrAnswer {
     Done,
     // what a delivery brought about
     Delivered(Delivery),
+}
+
+impl fmt::Display for VlrAnswer {
+    fn fmt<W: fmt::Write>(&self, f: &mut fmt::Formatter<W>) -> fmt::Result {
+        match self {
+            VlrAnswer::Done => f.write_str("accepted"),
+            VlrAnswer::Delivered(delivery) => write!(f, "{delivery}"),
+        }
+    }
 }
 
 // Of a call that has no more to tell than that it was made.
