@@ -1,16 +1,15 @@
 // The register at work, and what is printed of it.
 use crate::census::{Census, Row};
-use crate::command::{Command, Numbers, Page, command_in};
+use crate::command::{Command, Numbers, command_in, name_of};
 use crate::mistake::{LineError, Mistake};
 use crate::site::Site;
 use crate::spoken::Spoken;
 use crate::tally::{Event, Tally};
 use crate::went::Went;
 use frames::writing::write_frame;
-use imsi::Imsi;
-use station::denial::Denial;
 use station::receiving::Refusal;
-use std::{fmt, io};
+use std::io;
+use vlr::call::{VlrAnswer, VlrCall};
 use vlr::vlr::Vlr;
 use words::counting::count;
 use words::frame::Offered;
@@ -45,10 +44,7 @@ impl Bench {
     fn follow(&mut self, rt: &HostRuntime, line: &[u8]) -> Result<(), LineError> {
         match command_in(rt.alloc(), line)? {
             Some(Command::Register(numbers)) => self.register(rt, numbers),
-            Some(Command::Enrol { imsi, home_cause }) => self.enrol(rt, imsi, home_cause),
-            Some(Command::Page(page)) => self.page(rt, page),
-            Some(Command::Lose) => self.lose(rt),
-            Some(Command::Tick(ticks)) => self.ticks(rt, ticks),
+            Some(Command::Call { call, times }) => self.calls(rt, call, times),
             Some(Command::Octets(octets)) => self.arrives(rt, octets.as_slice()),
             Some(Command::Frame(spoken)) => self.spoken(rt, spoken),
             None => Ok(()),
@@ -59,49 +55,28 @@ impl Bench {
         if self.site.is_some() {
             return Err(Mistake::Second.into());
         }
-        let made = Vlr::new(numbers.own, numbers.sgsn);
-        let answer = made.as_ref().map(|_| ()).map_err(|denial| *denial);
-        self.answer(rt, "register", answer)?;
-        if let Ok(vlr) = made {
-            self.site = Some(Site::new(rt.alloc(), vlr)?);
+        match Vlr::new(numbers.own, numbers.sgsn) {
+            Ok(vlr) => {
+                self.site = Some(Site::new(rt.alloc(), vlr)?);
+                self.answer(rt, "register", Ok(VlrAnswer::Done))
+            }
+            Err(denial) => self.answer(rt, "register", Err(denial.into())),
+        }
+    }
+
+    fn calls(&mut self, rt: &HostRuntime, call: VlrCall, times: u8) -> Result<(), LineError> {
+        for _ in 0..times {
+            self.call(rt, call)?;
         }
         Ok(())
     }
 
-    fn enrol(&mut self, rt: &HostRuntime, imsi: Imsi, home_cause: u8) -> Result<(), LineError> {
-        let site = self.site.as_mut().ok_or(Mistake::NoRegister)?;
-        let answer = site.vlr.enrol(imsi, home_cause);
-        self.answer(rt, "enrol", answer)
-    }
-
-    fn page(&mut self, rt: &HostRuntime, page: Page) -> Result<(), LineError> {
+    // Makes a call, and shows what it answers and the frames that the register put.
+    fn call(&mut self, rt: &HostRuntime, call: VlrCall) -> Result<(), LineError> {
         let site = self.site.as_mut().ok_or(Mistake::NoRegister)?;
         let before = site.vlr.sender.last;
-        let answer = site.page(page);
-        self.answer(rt, "page", answer)?;
-        self.went(rt, before)
-    }
-
-    fn lose(&mut self, rt: &HostRuntime) -> Result<(), LineError> {
-        let site = self.site.as_mut().ok_or(Mistake::NoRegister)?;
-        let before = site.vlr.sender.last;
-        let answer = site.lose();
-        self.answer(rt, "lose", answer)?;
-        self.went(rt, before)
-    }
-
-    fn ticks(&mut self, rt: &HostRuntime, ticks: u8) -> Result<(), LineError> {
-        for _ in 0..ticks {
-            self.tick(rt)?;
-        }
-        Ok(())
-    }
-
-    fn tick(&mut self, rt: &HostRuntime) -> Result<(), LineError> {
-        let site = self.site.as_mut().ok_or(Mistake::NoRegister)?;
-        let before = site.vlr.sender.last;
-        let answer = site.tick();
-        self.answer(rt, "tick", answer)?;
+        let answer = site.make(call);
+        self.answer(rt, name_of(call), answer)?;
         self.went(rt, before)
     }
 
@@ -132,36 +107,21 @@ impl Bench {
                 octets
             }
         )?;
-        let before = site.vlr.sender.last;
-        let answer = site.deliver(octets);
-        self.tally.note(match answer {
-            Err(Refusal::Denied(_)) => Event::Denied,
-            Ok(_) | Err(Refusal::Faulty(_)) => Event::Accepted,
-        });
-        self.say(rt, "deliver", answer)?;
-        self.went(rt, before)
+        site.put(octets);
+        self.call(rt, VlrCall::Deliver)
     }
 
+    // Counts what a call answers, or why it was refused, and shows it.
     fn answer(
         &mut self,
         rt: &HostRuntime,
         call: &str,
-        answer: Result<(), Denial>,
+        answer: Result<VlrAnswer, Refusal>,
     ) -> Result<(), LineError> {
         self.tally.note(match answer {
-            Ok(()) => Event::Accepted,
-            Err(_) => Event::Denied,
+            Err(Refusal::Denied(_)) => Event::Denied,
+            _ => Event::Accepted,
         });
-        self.say(rt, call, answer.map(|()| "accepted"))
-    }
-
-    // What a call answers, or why it was refused.
-    fn say<T: fmt::Display + Drop, E: fmt::Display + Drop>(
-        &self,
-        rt: &HostRuntime,
-        call: &str,
-        answer: Result<T, E>,
-    ) -> Result<(), LineError> {
         match answer {
             Ok(answer) => println!(rt; "line {}: {call}: {answer}", self.number)?,
             Err(refusal) => println!(rt; "line {}: {call}: {refusal}", self.number)?,

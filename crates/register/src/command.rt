@@ -3,9 +3,9 @@ use crate::mistake::{LineError, Mistake};
 use crate::spoken::{Spoken, spoken_in};
 use crate::words_in::{imsi_in, node_in, number_in, tmsi_in};
 use elements::node::{SgsnNumber, VlrNumber};
-use imsi::Imsi;
 use std::alloc::Global;
 use std::str;
+use vlr::call::VlrCall;
 use words::hexadecimal::octets_in_line;
 use words::line::LineOctets;
 
@@ -16,21 +16,11 @@ pub(crate) struct Numbers {
     pub(crate) sgsn: SgsnNumber,
 }
 
-#[derive(Clone, Copy)]
-pub(crate) struct Page {
-    pub(crate) imsi: Imsi,
-    pub(crate) tmsi: Option<u32>,
-    pub(crate) channel: Option<u8>,
-}
-
 #[derive(Drop)]
 pub(crate) enum Command {
     Register(Numbers),
-    Enrol { imsi: Imsi, home_cause: u8 },
-    Page(Page),
-    Lose,
-    // so many ticks
-    Tick(u8),
+    // a call, so many times
+    Call { call: VlrCall, times: u8 },
     // octets that arrive
     Octets(LineOctets),
     // a frame that arrives, in words
@@ -66,14 +56,24 @@ fn asked(words: &[&str]) -> Result<Command, Mistake> {
         ["enrol", ref rest @ ..] => enrol_in(rest).ok_or(Mistake::Enrol),
         ["page", imsi, ref rest @ ..] => page_in(imsi, rest).ok_or(Mistake::Page),
         ["page"] => Err(Mistake::Page),
-        ["lose"] => Ok(Command::Lose),
+        ["lose"] => Ok(once(VlrCall::Lose)),
         ["lose", ..] => Err(Mistake::Lose),
-        ["tick"] => Ok(Command::Tick(1)),
-        ["tick", count] => number_in(count).map(Command::Tick).ok_or(Mistake::Tick),
+        ["tick"] => Ok(once(VlrCall::Tick)),
+        ["tick", count] => {
+            let times = number_in(count).ok_or(Mistake::Tick)?;
+            Ok(Command::Call {
+                call: VlrCall::Tick,
+                times,
+            })
+        }
         ["tick", ..] => Err(Mistake::Tick),
         ["from", ref rest @ ..] => Ok(Command::Frame(spoken_in(rest)?)),
         _ => Err(Mistake::Verb),
     }
+}
+
+fn once(call: VlrCall) -> Command {
+    Command::Call { call, times: 1 }
 }
 
 fn numbers_in(words: &[&str]) -> Option<Command> {
@@ -94,10 +94,10 @@ fn enrol_in(words: &[&str]) -> Option<Command> {
     let [imsi, home_cause] = *words else {
         return None;
     };
-    Some(Command::Enrol {
+    Some(once(VlrCall::Enrol {
         imsi: imsi_in(imsi)?,
         home_cause: number_in(home_cause)?,
-    })
+    }))
 }
 
 fn page_in(imsi: &str, words: &[&str]) -> Option<Command> {
@@ -108,9 +108,20 @@ fn page_in(imsi: &str, words: &[&str]) -> Option<Command> {
         ["tmsi", tmsi, "channel", channel] => (Some(tmsi_in(tmsi)?), Some(number_in(channel)?)),
         _ => return None,
     };
-    Some(Command::Page(Page {
+    Some(once(VlrCall::Page {
         imsi: imsi_in(imsi)?,
         tmsi,
         channel,
     }))
+}
+
+// The call, as the script says it; a delivery is what a frame that arrives brings about.
+pub(crate) fn name_of(call: VlrCall) -> &'static str {
+    match call {
+        VlrCall::Enrol { .. } => "enrol",
+        VlrCall::Page { .. } => "page",
+        VlrCall::Lose => "lose",
+        VlrCall::Deliver => "deliver",
+        VlrCall::Tick => "tick",
+    }
 }

@@ -1,13 +1,11 @@
 // A voice register, and the carrier that it stands on.
-use crate::command::{Numbers, Page};
 use carrier::datagram::Datagram;
 use carrier::in_order::InOrder;
 use gate::carrying::Gate;
-use imsi::Imsi;
 use queue::queue::Queue;
-use station::denial::Denial;
-use station::receiving::{Delivery, Refusal};
+use station::receiving::Refusal;
 use std::alloc::{AllocError, Global};
+use vlr::call::{VlrAnswer, VlrCall};
 use vlr::vlr::Vlr;
 
 #[derive(Drop)]
@@ -22,23 +20,13 @@ impl Site {
         Ok(Site { vlr, carrier })
     }
 
-    pub(crate) fn page(&mut self, page: Page) -> Result<(), Denial> {
-        self.vlr
-            .page(&mut self.carrier, page.imsi, page.tmsi, page.channel)
+    pub(crate) fn make(&mut self, call: VlrCall) -> Result<VlrAnswer, Refusal> {
+        self.vlr.make(&mut self.carrier, call)
     }
 
-    pub(crate) fn lose(&mut self) -> Result<(), Denial> {
-        self.vlr.lose(&mut self.carrier)
-    }
-
-    pub(crate) fn tick(&mut self) -> Result<(), Denial> {
-        self.vlr.tick(&mut self.carrier)
-    }
-
-    // Octets come in, and the register takes once.
-    pub(crate) fn deliver(&mut self, octets: &[u8]) -> Result<Delivery, Refusal> {
+    // Octets come in from the net.
+    pub(crate) fn put(&mut self, octets: &[u8]) {
         InOrder::put(&mut self.carrier, octets);
-        self.vlr.deliver(&mut self.carrier)
     }
 
     // What goes out to the SGSN next.

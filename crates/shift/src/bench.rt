@@ -1,12 +1,10 @@
 // The shift, line by line.
 use crate::command::{Command, Numbers, command_in, text_in};
-use crate::deed::{Deed, Takes};
+use crate::deed::{Deed, Times};
 use crate::heading::{Heading, Turn};
 use crate::mistake::{LineError, Mistake};
 use crate::place::Place;
-use crate::told::Told;
 use elements::node::NodeNumber;
-use law::call::Answer;
 use site::making::SiteError;
 use std::alloc::Global;
 use words::counting::count;
@@ -71,12 +69,9 @@ impl Bench {
         match Place::new(rt.alloc(), numbers, &self.script) {
             Ok(place) => {
                 self.place = Some(place);
-                println!(rt; "{heading}: {}", Told(Answer::Done))?;
+                println!(rt; "{heading}: accepted")?;
             }
-            Err(SiteError::Denied(denial)) => println!(rt;
-                "{heading}: {}",
-                Told(Answer::Denied(denial))
-            )?,
+            Err(SiteError::Denied(denial)) => println!(rt; "{heading}: {denial}")?,
             Err(SiteError::Memory(error)) => return Err(error.into()),
         }
         Ok(())
@@ -93,10 +88,9 @@ impl Bench {
         let place = self.place.as_mut().ok_or(Mistake::NoSite)?;
         let call = deed.call_at(node, place.sgsn().sender.own)?;
         let number = self.number;
-        let times = match deed {
-            Deed::Deliver(Takes::All) => place.waiting_for(node).max(1),
-            Deed::Deliver(Takes::Times(times)) | Deed::Tick(times) => times as usize,
-            _ => 1,
+        let times = match deed.times {
+            Times::Counted(times) => times as usize,
+            Times::Waiting => place.waiting_for(node).max(1),
         };
         if times == 1 {
             place.call(rt, Heading::Line { number, words }, call)?;
@@ -112,9 +106,8 @@ impl Bench {
                 words,
                 turn,
             };
-            match place.call(rt, heading, call)? {
-                Answer::Denied(_) | Answer::NoSuchNode => return Ok(()),
-                _ => {}
+            if !place.call(rt, heading, call)?.is_accepted() {
+                return Ok(());
             }
         }
         Ok(())

@@ -4,87 +4,107 @@ use crate::words_in::{
     area_in, class_in, detach_kind_in, imsi_in, node_in, number_in, request_kind_in, tmsi_in,
 };
 use context::kind::Request;
-use elements::node::{NodeNumber, VlrNumber};
-use imsi::Imsi;
+use elements::node::{NodeNumber, SgsnNumber, VlrNumber};
 use law::call::Call;
+use sgsn::call::SgsnCall;
+use vlr::call::VlrCall;
 
-// What stands in the line, whichever node it is for.
+// What stands in a line, whichever node it is for.
 #[derive(Clone, Copy)]
-pub(crate) enum Deed {
-    // the last word of an enrolment, as a class and as a home cause
-    Enrol {
-        imsi: Imsi,
-        class: u8,
-        home_cause: Option<u8>,
-    },
-    Attach(Imsi),
-    Request {
-        imsi: Imsi,
-        request: Request,
-    },
-    Detach {
-        imsi: Imsi,
-        kind: u8,
-    },
-    Settle(Imsi),
-    Page {
-        imsi: Imsi,
-        tmsi: Option<u32>,
-        channel: Option<u8>,
-    },
-    Lose,
-    Deliver(Takes),
-    // so many ticks
-    Tick(u8),
+pub(crate) struct Deed {
+    // none, where only a VLR does that
+    at_sgsn: Option<SgsnCall>,
+    // or why the line is bad at a VLR
+    at_vlr: Result<VlrCall, Mistake>,
+    pub(crate) times: Times,
 }
 
-// How often a node takes.
+// How often the call is made.
 #[derive(Clone, Copy)]
-pub(crate) enum Takes {
-    Times(u8),
-    // as many frames as wait for it
-    All,
+pub(crate) enum Times {
+    Counted(u8),
+    // once for each frame that waits for the node, and once where none does
+    Waiting,
+}
+
+impl Deed {
+    fn of_both(at_sgsn: SgsnCall, at_vlr: VlrCall, times: Times) -> Deed {
+        Deed {
+            at_sgsn: Some(at_sgsn),
+            at_vlr: Ok(at_vlr),
+            times,
+        }
+    }
+
+    fn of_sgsn(call: SgsnCall) -> Deed {
+        Deed {
+            at_sgsn: Some(call),
+            at_vlr: Err(Mistake::NotSgsn),
+            times: Times::Counted(1),
+        }
+    }
+
+    fn of_vlr(call: VlrCall) -> Deed {
+        Deed {
+            at_sgsn: None,
+            at_vlr: Ok(call),
+            times: Times::Counted(1),
+        }
+    }
+
+    fn ticks(times: u8) -> Deed {
+        Deed::of_both(SgsnCall::Tick, VlrCall::Tick, Times::Counted(times))
+    }
+
+    // The call that it is at this node, if the site's SGSN is that one. What only a VLR does is a VLR's call
+    // at the SGSN too: that no VLR has this number, the site says.
+    pub(crate) fn call_at(self, node: NodeNumber, sgsn: NodeNumber) -> Result<Call, Mistake> {
+        match self.at_sgsn {
+            Some(call) if node == sgsn => Ok(Call::Sgsn(SgsnNumber { node }, call)),
+            _ => Ok(Call::Vlr(VlrNumber { node }, self.at_vlr?)),
+        }
+    }
 }
 
 // The first word says which deed, and the others what it is given.
 pub(crate) fn deed_in(words: &[&str]) -> Result<Deed, Mistake> {
     match *words {
         ["enrol", ref rest @ ..] => enrol_in(rest).ok_or(Mistake::Enrol),
-        ["attach", ref rest @ ..] => one_imsi_in(rest)
-            .map(Deed::Attach)
-            .ok_or(Mistake::OneMobile),
+        ["attach", imsi] => {
+            let imsi = imsi_in(imsi).ok_or(Mistake::OneMobile)?;
+            Ok(Deed::of_sgsn(SgsnCall::Attach { imsi }))
+        }
         ["request", ref rest @ ..] => request_in(rest).ok_or(Mistake::Request),
         ["detach", ref rest @ ..] => detach_in(rest).ok_or(Mistake::Detach),
-        ["settle", ref rest @ ..] => one_imsi_in(rest)
-            .map(Deed::Settle)
-            .ok_or(Mistake::OneMobile),
+        ["settle", imsi] => {
+            let imsi = imsi_in(imsi).ok_or(Mistake::OneMobile)?;
+            Ok(Deed::of_sgsn(SgsnCall::Settle { imsi }))
+        }
+        ["attach" | "settle", ..] => Err(Mistake::OneMobile),
         ["page", imsi, ref rest @ ..] => page_in(imsi, rest).ok_or(Mistake::Page),
         ["page"] => Err(Mistake::Page),
-        ["lose"] => Ok(Deed::Lose),
+        ["lose"] => Ok(Deed::of_both(SgsnCall::Lose, VlrCall::Lose, Times::Counted(1))),
         ["lose", ..] => Err(Mistake::Lose),
-        ["deliver", ref rest @ ..] => takes_in(rest).map(Deed::Deliver).ok_or(Mistake::Deliver),
-        ["tick"] => Ok(Deed::Tick(1)),
-        ["tick", count] => number_in(count).map(Deed::Tick).ok_or(Mistake::Tick),
+        ["deliver", ref rest @ ..] => deliver_in(rest).ok_or(Mistake::Deliver),
+        ["tick"] => Ok(Deed::ticks(1)),
+        ["tick", count] => number_in(count).map(Deed::ticks).ok_or(Mistake::Tick),
         ["tick", ..] => Err(Mistake::Tick),
         _ => Err(Mistake::Verb),
     }
 }
 
-fn one_imsi_in(words: &[&str]) -> Option<Imsi> {
-    let [imsi] = *words else {
-        return None;
-    };
-    imsi_in(imsi)
-}
-
+// The last word is a class at the SGSN, and a home cause at a VLR.
 fn enrol_in(words: &[&str]) -> Option<Deed> {
     let [imsi, code] = *words else {
         return None;
     };
-    Some(Deed::Enrol {
-        imsi: imsi_in(imsi)?,
-        class: class_in(code)?,
-        home_cause: number_in(code),
+    let imsi = imsi_in(imsi)?;
+    let class = class_in(code)?;
+    let at_vlr = number_in(code).map(|home_cause| VlrCall::Enrol { imsi, home_cause });
+    Some(Deed {
+        at_sgsn: Some(SgsnCall::Enrol { imsi, class }),
+        at_vlr: at_vlr.ok_or(Mistake::HomeCause),
+        times: Times::Counted(1),
     })
 }
 
@@ -101,17 +121,17 @@ fn request_in(words: &[&str]) -> Option<Deed> {
         new_area: area_in(new_area)?,
     };
     let imsi = imsi_in(imsi)?;
-    Some(Deed::Request { imsi, request })
+    Some(Deed::of_sgsn(SgsnCall::Request { imsi, request }))
 }
 
 fn detach_in(words: &[&str]) -> Option<Deed> {
     let [imsi, kind] = *words else {
         return None;
     };
-    Some(Deed::Detach {
+    Some(Deed::of_sgsn(SgsnCall::Detach {
         imsi: imsi_in(imsi)?,
         kind: detach_kind_in(kind)?,
-    })
+    }))
 }
 
 fn page_in(imsi: &str, words: &[&str]) -> Option<Deed> {
@@ -122,69 +142,19 @@ fn page_in(imsi: &str, words: &[&str]) -> Option<Deed> {
         ["tmsi", tmsi, "channel", channel] => (Some(tmsi_in(tmsi)?), Some(number_in(channel)?)),
         _ => return None,
     };
-    Some(Deed::Page {
+    Some(Deed::of_vlr(VlrCall::Page {
         imsi: imsi_in(imsi)?,
         tmsi,
         channel,
-    })
+    }))
 }
 
-fn takes_in(words: &[&str]) -> Option<Takes> {
-    match *words {
-        [] => Some(Takes::Times(1)),
-        ["all"] => Some(Takes::All),
-        [count] => number_in(count).map(Takes::Times),
-        _ => None,
-    }
-}
-
-impl Deed {
-    // The call that it is at this node.
-    pub(crate) fn call_at(self, node: NodeNumber, sgsn: NodeNumber) -> Result<Call, Mistake> {
-        match self {
-            Deed::Lose => Ok(Call::Lose { node }),
-            Deed::Deliver(_) => Ok(Call::Deliver { node }),
-            Deed::Tick(_) => Ok(Call::Tick { node }),
-            _ if node == sgsn => self.call_at_sgsn(node),
-            _ => self.call_at_vlr(VlrNumber { node }),
-        }
-    }
-
-    // A page names its VLR: that the SGSN is none, the site says.
-    fn call_at_sgsn(self, node: NodeNumber) -> Result<Call, Mistake> {
-        match self {
-            Deed::Enrol { imsi, class, .. } => Ok(Call::Enrol { imsi, class }),
-            Deed::Attach(imsi) => Ok(Call::Attach { imsi }),
-            Deed::Request { imsi, request } => Ok(Call::Request { imsi, request }),
-            Deed::Detach { imsi, kind } => Ok(Call::Detach { imsi, kind }),
-            Deed::Settle(imsi) => Ok(Call::Settle { imsi }),
-            _ => self.call_at_vlr(VlrNumber { node }),
-        }
-    }
-
-    fn call_at_vlr(self, vlr: VlrNumber) -> Result<Call, Mistake> {
-        match self {
-            Deed::Enrol {
-                imsi,
-                home_cause: Some(home_cause),
-                ..
-            } => Ok(Call::EnrolAtVlr {
-                vlr,
-                imsi,
-                home_cause,
-            }),
-            Deed::Enrol { .. } => Err(Mistake::HomeCause),
-            Deed::Page {
-                imsi,
-                tmsi,
-                channel,
-            } => Ok(Call::Page {
-                vlr,
-                imsi,
-                tmsi,
-                channel,
-            }),
-            _ => Err(Mistake::NotSgsn),
-        }
-    }
+fn deliver_in(words: &[&str]) -> Option<Deed> {
+    let times = match *words {
+        [] => Times::Counted(1),
+        ["all"] => Times::Waiting,
+        [count] => Times::Counted(number_in(count)?),
+        _ => return None,
+    };
+    Some(Deed::of_both(SgsnCall::Deliver, VlrCall::Deliver, times))
 }

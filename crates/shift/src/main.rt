@@ -12,7 +12,6 @@ mod place;
 mod showing;
 mod table;
 mod tally;
-mod told;
 mod words_in;
 
 use bench::Bench;

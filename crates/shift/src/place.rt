@@ -9,6 +9,7 @@ use elements::node::{NodeNumber, SgsnNumber};
 use gate::carrying::Gate;
 use imsi::Imsi;
 use law::call::{Answer, Call};
+use sgsn::call::{SgsnAnswer, SgsnCall};
 use sgsn::sgsn::Sgsn;
 use site::making::SiteError;
 use site::site::Site;
@@ -16,6 +17,8 @@ use slip::carrying::Slip;
 use station::mark::Mark;
 use station::receiving::Delivery;
 use std::alloc::Global;
+use std::fmt;
+use vlr::call::{VlrAnswer, VlrCall};
 use watch::carrying::Watched;
 use watch::log::Sighting;
 use words::counting::count;
@@ -36,9 +39,30 @@ pub(crate) struct Place {
 pub(crate) struct Made {
     pub(crate) answer: Answer,
     // which take it made of the net, if it made one
-    pub(crate) take: Option<u64>,
+    take: Option<u64>,
     // the frame that no longer waits since, where a take was given nothing
     missing: Option<Datagram>,
+}
+
+impl Made {
+    // A delivery that found no frame, whatever the net gave.
+    fn is_nothing(self) -> bool {
+        matches!(
+            self.answer,
+            Answer::Sgsn(Ok(SgsnAnswer::Delivered(Delivery::Nothing)))
+                | Answer::Vlr(Ok(VlrAnswer::Delivered(Delivery::Nothing)))
+        )
+    }
+}
+
+impl fmt::Display for Made {
+    fn fmt<W: fmt::Write>(&self, f: &mut fmt::Formatter<W>) -> fmt::Result {
+        write!(f, "{}", self.answer)?;
+        match self.take {
+            Some(take) => write!(f, " (take {take})"),
+            None => Ok(()),
+        }
+    }
 }
 
 impl Place {
@@ -112,7 +136,8 @@ impl Place {
     // Makes a call.
     pub(crate) fn make(&mut self, call: Call) -> Made {
         let oldest = match call {
-            Call::Deliver { node } => self.oldest_for(node),
+            Call::Sgsn(number, SgsnCall::Deliver) => self.oldest_for(number.node),
+            Call::Vlr(number, VlrCall::Deliver) => self.oldest_for(number.node),
             _ => None,
         };
         let before = self.waiting().len();
@@ -157,7 +182,6 @@ impl Place {
 
     // What became of the frame that was seen there, in this call.
     pub(crate) fn rung(&self, i: usize, made: Made) -> Option<Rung> {
-        let is_nothing = made.answer == Answer::Delivered(Delivery::Nothing);
         let (fate, datagram) = match *self.unseen().get(i)? {
             Sighting::Put(frame) if self.waits(frame) => (Fate::Sent, frame),
             Sighting::Put(frame) => (Fate::Lost, frame),
@@ -165,7 +189,7 @@ impl Place {
             Sighting::Take {
                 given: Some(frame),
                 ..
-            } if is_nothing => (Fate::Dropped, frame),
+            } if made.is_nothing() => (Fate::Dropped, frame),
             Sighting::Take {
                 given: Some(frame),
                 ..

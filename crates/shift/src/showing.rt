@@ -4,10 +4,12 @@ use crate::ladder::{Fate, Rung};
 use crate::place::{Made, Place};
 use crate::table::{Count, HEAD, Row, marked};
 use crate::tally::Event;
-use crate::told::{ByTake, Told};
+use elements::node::SgsnNumber;
 use law::call::{Answer, Call};
+use sgsn::call::SgsnCall;
 use station::mark::Mark;
 use std::io;
+use vlr::call::VlrCall;
 
 // So many ticks after its call at most, a request or detach has its verdict.
 const LAST_TICKS: usize = 32;
@@ -22,11 +24,12 @@ impl Place {
     ) -> io::Result<Answer> {
         let made = self.make(call);
         if !self.is_quiet(heading, call, made.answer) {
-            println!(rt; "{heading}: {}{}", Told(made.answer), ByTake(made.take))?;
+            println!(rt; "{heading}: {made}")?;
         }
-        self.tally.note(match made.answer {
-            Answer::Denied(_) | Answer::NoSuchNode => Event::Refused,
-            _ => Event::Accepted,
+        self.tally.note(if made.answer.is_accepted() {
+            Event::Accepted
+        } else {
+            Event::Refused
         });
         self.show_frames(rt, made)?;
         Ok(made.answer)
@@ -39,10 +42,11 @@ impl Place {
             Heading::Turn { turn, .. } => turn.nth == turn.of,
             Heading::LastTick(_) => !self.awaits_verdict(),
         };
-        matches!(call, Call::Tick { .. })
-            && !is_last
-            && answer == Answer::Done
-            && self.unseen().is_empty()
+        let is_tick = matches!(
+            call,
+            Call::Sgsn(_, SgsnCall::Tick) | Call::Vlr(_, VlrCall::Tick)
+        );
+        is_tick && !is_last && answer.is_accepted() && self.unseen().is_empty()
     }
 
     // What became of frames in this call.
@@ -59,16 +63,23 @@ impl Place {
 
     // Ticks until each verdict stands, and settles what is owed.
     pub(crate) fn settle_all(&mut self, rt: &HostRuntime) -> io::Result<()> {
-        let node = self.sgsn().sender.own;
+        let number = SgsnNumber {
+            node: self.sgsn().sender.own,
+        };
         for i in 0..LAST_TICKS {
             if !self.awaits_verdict() {
                 break;
             }
-            self.call(rt, Heading::LastTick(i + 1), Call::Tick { node })?;
+            self.call(
+                rt,
+                Heading::LastTick(i + 1),
+                Call::Sgsn(number, SgsnCall::Tick),
+            )?;
         }
         for i in 0..self.sgsn().table().len() {
             if let Some(imsi) = self.owed(i) {
-                self.call(rt, Heading::LastSettle(imsi), Call::Settle { imsi })?;
+                let call = Call::Sgsn(number, SgsnCall::Settle { imsi });
+                self.call(rt, Heading::LastSettle(imsi), call)?;
             }
         }
         Ok(())
