@@ -8,15 +8,16 @@ ghost use Rattle.decode.specs.Outcomes.{is_comment, read_line, outcome_in};
 use elements::fault::Fault;
 use frames::frame::Frame;
 use frames::reading::read_frame;
-use std::error::Error;
-use std::fmt;
+use thiserror::Error;
 use words::hexadecimal::octets_in_line;
 use words::line::BadLine;
 
 // Why a line gives no frame: its octets have a fault, or it does not write octets.
-#[derive(Clone, Copy, Debug, PartialEq, Eq)]
+#[derive(Clone, Copy, Debug, PartialEq, Eq, Error)]
 pub enum Refusal {
+    #[error(transparent)]
     Fault(Fault),
+    #[error("bad line: {0}")]
     Line(BadLine),
 }
 
@@ -35,17 +36,6 @@ impl From<BadLine> for Refusal {
         Refusal::Line(bad)
     }
 }
-
-impl fmt::Display for Refusal {
-    fn fmt<W: fmt::Write>(&self, f: &mut fmt::Formatter<W>) -> fmt::Result {
-        match self {
-            Refusal::Fault(fault) => write!(f, "{fault}"),
-            Refusal::Line(bad) => write!(f, "bad line: {bad}"),
-        }
-    }
-}
-
-impl Error for Refusal {}
 
 // A line that begins with # is a comment.
 fn is_comment(line: &[u8]) -> bool

@@ -1,4 +1,5 @@
-// What the programs share: octets in hexadecimal, frames in words, and how they count.
+// What the programs share: octets in hexadecimal, frames in words, how they count, and why they do not follow
+// a line.
 #![tactic(auto)]
 
 pub mod counting;
