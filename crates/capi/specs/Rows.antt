@@ -5,6 +5,7 @@ use Rattle.elements.specs.declared.area.LocationArea.{LocationArea}
 use Rattle.elements.specs.Codes.{cause_octet, update_octet, class_octet, gprs_detach_octet, imsi_detach_octet}
 use Rattle.messages.specs.declared.message.Message.{Message}
 use Rattle.messages.specs.declared.message.Message.TheVariants.{Paging, PagingFailure, MobileStatus, LuRequest, LuAccept, LuReject, Reset, ResetAcknowledge, GprsDetachIndication, GprsDetachAcknowledge, ImsiDetachIndication, ImsiDetachAcknowledge}
+use Rattle.messages.specs.Mobiles.{mobile_of}
 use Rattle.messages.specs.Spelling.{type_of}
 use Rattle.frames.specs.declared.frame.Frame.{Frame}
 use Rattle.capi.specs.declared.row.Row.{Row}
@@ -24,29 +25,37 @@ five_number os = slice_index os 0 * 4294967296 + slice_index os 1 * 16777216 + s
 abbrev pub area_number : LocationArea → ℕ
 area_number a = five_number a.octets
 
--- the row, still in no frame, of a message of this type that may have an IMSI, a TMSI, a channel, an octet, two areas and a class, each 0 if absent
-abbrev pub body : ℕ → Imsi → Option ℕ → Option ℕ → ℕ → ℕ → ℕ → ℕ → Row
-body k i t c octet old new class = record { source = 0; destination = 0; stamp = 0; answers = 0; kind = k; digits = i.digits; value = i.value; has_tmsi = present t; tmsi = or_zero t; has_channel = present c; channel = or_zero c; code = octet; old_area = old; new_area = new; class = class }
+-- the octet of the one element that most messages have beside an IMSI, 0 where there is none
+abbrev pub code_of : Message → ℕ
+code_of (PagingFailure i c) = cause_octet c
+code_of (MobileStatus i c) = cause_octet c
+code_of (LuRequest i u o n c) = update_octet u
+code_of (LuReject i c) = c.number
+code_of (Reset e) = e.number
+code_of (ResetAcknowledge e) = e.number
+code_of (GprsDetachIndication i t) = gprs_detach_octet t
+code_of (GprsDetachAcknowledge i t) = gprs_detach_octet t
+code_of (ImsiDetachIndication i t) = imsi_detach_octet t
+code_of (ImsiDetachAcknowledge i t) = imsi_detach_octet t
+code_of m = 0
 
-abbrev pub imsi_and : ℕ → Imsi → ℕ → Row
-imsi_and k i octet = body k i None None octet 0 0 0
+-- a row, still in no frame, of this type and code; the rest is 0
+abbrev pub plain : ℕ → ℕ → Row
+plain k octet = record { source = 0; destination = 0; stamp = 0; answers = 0; kind = k; digits = 0; value = 0; has_tmsi = 0; tmsi = 0; has_channel = 0; channel = 0; code = octet; old_area = 0; new_area = 0; class = 0 }
 
-abbrev pub entity_alone : ℕ → ℕ → Row
-entity_alone k octet = body k (record { digits = 0; value = 0 }) None None octet 0 0 0
+-- and of this IMSI, if there is one
+abbrev pub coded : ℕ → ℕ → Option Imsi → Row
+coded k octet None = plain k octet
+coded k octet (Some i) = record (plain k octet) { digits = i.digits; value = i.value }
+
+abbrev pub coded_row : Message → Row
+coded_row m = coded (type_of m) (code_of m) (mobile_of m)
 
 abbrev pub body_of : Message → Row
-body_of (Paging i t c) = body (type_of (Paging i t c)) i t c 0 0 0 0
-body_of (PagingFailure i c) = imsi_and (type_of (PagingFailure i c)) i (cause_octet c)
-body_of (MobileStatus i c) = imsi_and (type_of (MobileStatus i c)) i (cause_octet c)
-body_of (LuRequest i u o n c) = body (type_of (LuRequest i u o n c)) i None None (update_octet u) (area_number o) (area_number n) (class_octet c)
-body_of (LuAccept i n) = body (type_of (LuAccept i n)) i None None 0 0 (area_number n) 0
-body_of (LuReject i c) = imsi_and (type_of (LuReject i c)) i c.number
-body_of (Reset e) = entity_alone (type_of (Reset e)) e.number
-body_of (ResetAcknowledge e) = entity_alone (type_of (ResetAcknowledge e)) e.number
-body_of (GprsDetachIndication i t) = imsi_and (type_of (GprsDetachIndication i t)) i (gprs_detach_octet t)
-body_of (GprsDetachAcknowledge i t) = imsi_and (type_of (GprsDetachAcknowledge i t)) i (gprs_detach_octet t)
-body_of (ImsiDetachIndication i t) = imsi_and (type_of (ImsiDetachIndication i t)) i (imsi_detach_octet t)
-body_of (ImsiDetachAcknowledge i t) = imsi_and (type_of (ImsiDetachAcknowledge i t)) i (imsi_detach_octet t)
+body_of (Paging i t c) = record (coded_row (Paging i t c)) { has_tmsi = present t; tmsi = or_zero t; has_channel = present c; channel = or_zero c }
+body_of (LuRequest i u o n c) = record (coded_row (LuRequest i u o n c)) { old_area = area_number o; new_area = area_number n; class = class_octet c }
+body_of (LuAccept i n) = record (coded_row (LuAccept i n)) { new_area = area_number n }
+body_of m = coded_row m
 
 -- what of a row is the message's
 abbrev pub body_row : Row → List ℕ

@@ -1,8 +1,7 @@
 // The frame that a row of numbers says. Every fault is at place 0, since a row has no octets.
 ghost use Rattle.std.specs.Prelude.{◌≡◌, Ok};
 ghost use Rattle.capi.specs.Rows.{fields_of};
-ghost use Rattle.messages.specs.Kinds.{octet_of};
-ghost use Rattle.capi.specs.Taken.{Fitted, FittedOption, node_from, code_from, area_from, imsi_from, imsi_and_from, paging_from, lu_request_from, lu_accept_from, body_from, message_from, frame_from};
+ghost use Rattle.capi.specs.Taken.{Fitted, FittedOption, node_from, code_from, area_from, imsi_from, paging_from, lu_request_from, lu_accept_from, body_from, message_from, frame_from};
 
 use crate::row::Row;
 use elements::area::LocationArea;
@@ -74,15 +73,6 @@ impl Row {
         })
     }
 
-    // An IMSI and one octet that stands for a value: the shape of seven of the messages.
-    fn imsi_and<T: Coded + Drop>(&self) -> Result<(Imsi, T), Fault>
-        ensures { result ≡ imsi_and_from T.Coded.value_in (fields_of self.now) }
-    {
-        let imsi = self.imsi()?;
-        let value = code::<T>(self.code)?;
-        Ok((imsi, value))
-    }
-
     fn paging(&self) -> Result<Message, Fault>
         ensures { result ≡ paging_from (fields_of self.now) }
     {
@@ -99,7 +89,8 @@ impl Row {
     fn lu_request(&self) -> Result<Message, Fault>
         ensures { result ≡ lu_request_from (fields_of self.now) }
     {
-        let (imsi, update) = self.imsi_and()?;
+        let imsi = self.imsi()?;
+        let update = code(self.code)?;
         let old_area = area(self.old_area)?;
         let new_area = area(self.new_area)?;
         let class = code(self.class)?;
@@ -122,48 +113,46 @@ impl Row {
 
     // What a message of this type says.
     fn body(&self, kind: MessageType) -> Result<Message, Fault>
-        ensures { result ≡ body_from (fields_of self.now) (octet_of kind) }
+        ensures { result ≡ body_from (fields_of self.now) kind }
     {
         match kind {
             MessageType::Paging => self.paging(),
-            MessageType::PagingFailure => {
-                let (imsi, cause) = self.imsi_and()?;
-                Ok(Message::PagingFailure { imsi, cause })
-            }
-            MessageType::MobileStatus => {
-                let (imsi, cause) = self.imsi_and()?;
-                Ok(Message::MobileStatus { imsi, cause })
-            }
+            MessageType::PagingFailure => Ok(Message::PagingFailure {
+                imsi: self.imsi()?,
+                cause: code(self.code)?,
+            }),
+            MessageType::MobileStatus => Ok(Message::MobileStatus {
+                imsi: self.imsi()?,
+                cause: code(self.code)?,
+            }),
             MessageType::LuRequest => self.lu_request(),
             MessageType::LuAccept => self.lu_accept(),
-            MessageType::LuReject => {
-                let (imsi, cause) = self.imsi_and()?;
-                Ok(Message::LuReject { imsi, cause })
-            }
-            MessageType::Reset => {
-                let entity = code(self.code)?;
-                Ok(Message::Reset { entity })
-            }
-            MessageType::ResetAcknowledge => {
-                let entity = code(self.code)?;
-                Ok(Message::ResetAcknowledge { entity })
-            }
-            MessageType::GprsDetachIndication => {
-                let (imsi, detach) = self.imsi_and()?;
-                Ok(Message::GprsDetachIndication { imsi, detach })
-            }
-            MessageType::GprsDetachAcknowledge => {
-                let (imsi, detach) = self.imsi_and()?;
-                Ok(Message::GprsDetachAcknowledge { imsi, detach })
-            }
-            MessageType::ImsiDetachIndication => {
-                let (imsi, detach) = self.imsi_and()?;
-                Ok(Message::ImsiDetachIndication { imsi, detach })
-            }
-            MessageType::ImsiDetachAcknowledge => {
-                let (imsi, detach) = self.imsi_and()?;
-                Ok(Message::ImsiDetachAcknowledge { imsi, detach })
-            }
+            MessageType::LuReject => Ok(Message::LuReject {
+                imsi: self.imsi()?,
+                cause: code(self.code)?,
+            }),
+            MessageType::Reset => Ok(Message::Reset {
+                entity: code(self.code)?,
+            }),
+            MessageType::ResetAcknowledge => Ok(Message::ResetAcknowledge {
+                entity: code(self.code)?,
+            }),
+            MessageType::GprsDetachIndication => Ok(Message::GprsDetachIndication {
+                imsi: self.imsi()?,
+                detach: code(self.code)?,
+            }),
+            MessageType::GprsDetachAcknowledge => Ok(Message::GprsDetachAcknowledge {
+                imsi: self.imsi()?,
+                detach: code(self.code)?,
+            }),
+            MessageType::ImsiDetachIndication => Ok(Message::ImsiDetachIndication {
+                imsi: self.imsi()?,
+                detach: code(self.code)?,
+            }),
+            MessageType::ImsiDetachAcknowledge => Ok(Message::ImsiDetachAcknowledge {
+                imsi: self.imsi()?,
+                detach: code(self.code)?,
+            }),
         }
     }
 

@@ -1,6 +1,6 @@
 // A frame as a row of numbers.
-ghost use Rattle.std.specs.Prelude.{◌≡◌};
-ghost use Rattle.capi.specs.Rows.{present, or_zero, area_number, imsi_and, body_of, fields_of, row_of};
+ghost use Rattle.std.specs.Prelude.{◌≡◌, Some};
+ghost use Rattle.capi.specs.Rows.{present, or_zero, area_number, coded, body_of, fields_of, row_of};
 
 use crate::row::Row;
 use elements::area::LocationArea;
@@ -29,7 +29,7 @@ fn flag_and_number(number: Option<u64>) -> (u64, u64)
 
 // A message of an IMSI and one octet.
 fn imsi_and(type_octet: u8, imsi: Imsi, octet: u8) -> Row
-    ensures { result ≡ imsi_and type_octet imsi octet }
+    ensures { result ≡ coded type_octet octet (Some imsi) }
 {
     Row {
         kind: type_octet as u64,

@@ -1,4 +1,4 @@
--- The parts that messages share: the type octet, the IMSI, an IMSI with one coded element, and the end.
+-- The parts that messages share: the type octet, the IMSI, one coded element at the end, alone and after an IMSI.
 use Rattle.std.proofs.Common.{◌≡◌, ℕ, ◌+◌, ◌/◌, true, cond, eqb, ltb, List, [], ◌∷◌, ◌++◌, length, get_or, drop, Some, Ok, Option, Result, sym, refl, ap, ◌∙◌, subst, ⊎_elim, append-nil, add-zero, arith}
 use Rattle.std.proofs.lemmas.List.{length-drop, drop_all, drop_more}
 use Rattle.std.proofs.lemmas.Bool.{cond-true, cond-false, lt-ltb, le-ltb, ltb-false, ltb-true, eqb-true, cases_Bool}
@@ -11,30 +11,28 @@ use Rattle.elements.specs.Spelling.{imsi_element, octet_element}
 use Rattle.elements.specs.Table.{least_of, most_of}
 use Rattle.elements.proofs.Chains.{then_there, then_ok, same_ok, fault_ok, at-drop, drop_size, past}
 use Rattle.elements.proofs.Elements.{coded_there, coded_read, imsi_there, imsi_read}
+use Rattle.messages.specs.declared.kind.MessageType.{MessageType}
 use Rattle.messages.specs.declared.message.Message.{Message}
+use Rattle.messages.specs.Kinds.{octet_of, kind_in}
 use Rattle.messages.specs.Lawful.{lawful_mobile}
-use Rattle.messages.specs.Reading.{imsi_of, after_imsi, mobile_at, imsi_and_at, body_at, message_at}
+use Rattle.messages.proofs.Types.{kind_there, kind_back}
+use Rattle.messages.specs.Reading.{imsi_of, after_imsi, mobile_at, last_at, imsi_and_at, body_at, known_or, kind_at, message_at}
 
 -- the type octet chooses
-pub type_there : (s xs : List ℕ) (at t : ℕ) → drop at s ≡ t ∷ xs → message_at s at ≡ body_at s at t
-type_there s xs at t d =
-    let size = drop_size s (t ∷ xs) at d (omega arith) in
-    let g0 : get_or s at 0 ≡ t = ap (λ k. get_or s k 0) (sym (add-zero at)) ∙ at-drop s (t ∷ xs) at 0 d in
-    cond-true _ _ _ (lt-ltb at (length s) (omega arith)) ∙ ap (body_at s at) g0
+pub type_there : (s xs : List ℕ) (at : ℕ) (k : MessageType) → drop at s ≡ octet_of k ∷ xs → message_at s at ≡ body_at s (at + 1) k
+type_there s xs at k d =
+    let size = drop_size s (octet_of k ∷ xs) at d (omega arith) in
+    let g0 : get_or s at 0 ≡ octet_of k = ap (λ i. get_or s i 0) (sym (add-zero at)) ∙ at-drop s (octet_of k ∷ xs) at 0 d in
+    then_there (body_at s (at + 1)) (cond-true _ _ _ (lt-ltb at (length s) (omega arith)) ∙ ap (λ n. known_or (kind_in n) at) g0 ∙ ap (λ o. known_or o at) (kind_there k)) refl
 
-pub type_read : (s : List ℕ) (at : ℕ) (m : Message) → message_at s at ≡ Ok m → (drop at s ≡ get_or s at 0 ∷ drop (at + 1) s) × (body_at s at (get_or s at 0) ≡ Ok m)
+pub type_read : (s : List ℕ) (at : ℕ) (m : Message) → message_at s at ≡ Ok m → (k : MessageType) × (drop at s ≡ octet_of k ∷ drop (at + 1) s) × (body_at s (at + 1) k ≡ Ok m)
 type_read s at m r =
+    let a = then_ok (kind_at s at) _ m r in
+    let k = a.0 in
     ⊎_elim
-    (λ t. (drop_more s at 0 (ltb-true at (length s) t), sym (cond-true _ _ _ t) ∙ r))
-    (λ f. fault_ok _ m (sym (cond-false _ _ _ f) ∙ r))
+    (λ t. (k, drop_more s at 0 (ltb-true at (length s) t) ∙ ap (λ n. n ∷ drop (at + 1) s) (sym (kind_back (get_or s at 0) at k (sym (cond-true _ _ _ t) ∙ a.1))), a.2))
+    (λ f. fault_ok _ k (sym (cond-false _ _ _ f) ∙ a.1))
     (cases_Bool (ltb at (length s)))
-
-pub by_type : {Q : Type 0} (t k : ℕ) (x y : Result Message Fault) (m : Message) → cond (eqb t k) x y ≡ Ok m → (t ≡ k → x ≡ Ok m → Q) → (y ≡ Ok m → Q) → Q
-by_type t k x y m r here else' =
-    ⊎_elim
-    (λ e. here (eqb-true t k e) (sym (cond-true _ _ _ e) ∙ r))
-    (λ f. else' (sym (cond-false _ _ _ f) ∙ r))
-    (cases_Bool (eqb t k))
 
 -- the end of the octets
 pub end_there : {X : Type 0} (s : List ℕ) (at : ℕ) (x : X) → drop at s ≡ [] → end_at s at x ≡ Ok x
@@ -68,34 +66,56 @@ mobile_read s at i r =
     let m = imsi_read s at p.0 p.1 got.1 in
     subst (λ w. Mobile s at w) (same_ok (imsi_of p) i got.2) (record { lawful = m.lawful; is = m.is })
 
--- an IMSI and one coded element, then the end
-pub imsi_and_there : {X : Type 0} (of : ℕ → Option X) (e : Element) (s : List ℕ) (at v : ℕ) (i : Imsi) (x : X) → drop at s ≡ imsi_element i ++ octet_element e v → lawful_mobile i ≡ true → least_of e ≡ 1 → most_of e ≡ 1 → of v ≡ Some x → imsi_and_at of e s at ≡ Ok (i, x)
-imsi_and_there of e s at v i x d l lo hi h =
-    let next = mobile_past s (octet_element e v) at i d in
-    let next1 = next ∙ sym (append-nil (octet_element e v)) in
-    let end = past s (octet_element e v) [] (after_imsi at i) (after_imsi at i + 3) next1 refl in
-    then_there _ (mobile_there s (octet_element e v) at i d l) (then_there _ (coded_there of s [] (after_imsi at i) v e x next1 lo hi h) (end_there s (after_imsi at i + 3) (i, x) end))
+-- one coded element, then the end
+pub last_there : {X : Type 0} (of : ℕ → Option X) (e : Element) (s : List ℕ) (at v : ℕ) (x : X) → drop at s ≡ octet_element e v → least_of e ≡ 1 → most_of e ≡ 1 → of v ≡ Some x → last_at of e s at ≡ Ok x
+last_there of e s at v x d lo hi h =
+    let d1 = d ∙ sym (append-nil (octet_element e v)) in
+    then_there _ (coded_there of s [] at v e x d1 lo hi h) (end_there s (at + 3) x (past s (octet_element e v) [] at (at + 3) d1 refl))
 
-pub record ImsiAnd {X : Type 0} (of : ℕ → Option X) (e : Element) (s : List ℕ) (at : ℕ) (i : Imsi) (x : X) : Type 0 where
-  pub lawful : lawful_mobile i ≡ true
+pub record Last {X : Type 0} (of : ℕ → Option X) (e : Element) (s : List ℕ) (at : ℕ) (x : X) : Type 0 where
   pub octet : ℕ
   pub stands : of octet ≡ Some x
-  pub is : drop at s ≡ imsi_element i ++ octet_element e octet
+  pub is : drop at s ≡ octet_element e octet
 
-pub imsi_and_read : {X : Type 0} (of : ℕ → Option X) (e : Element) (s : List ℕ) (at : ℕ) (p : Imsi × X) → least_of e ≡ 1 → most_of e ≡ 1 → imsi_and_at of e s at ≡ Ok p → ImsiAnd of e s at p.0 p.1
-imsi_and_read of e s at p lo hi r =
-    let a = then_ok (mobile_at s at) _ p r in
+pub last_read : {X : Type 0} (of : ℕ → Option X) (e : Element) (s : List ℕ) (at : ℕ) (x : X) → least_of e ≡ 1 → most_of e ≡ 1 → last_at of e s at ≡ Ok x → Last of e s at x
+last_read of e s at x lo hi r =
+    let a = then_ok (coded_at of s at e) _ x r in
+    let cd = coded_read of s at e a.0 lo hi a.1 in
+    let fin = end_read s (at + 3) a.0 x a.2 in
+    let v = cd.octet in
+    record {
+      octet = v;
+      stands = cd.stands ∙ ap Some fin.1;
+      is = cd.is ∙ ap (λ t. octet_element e v ++ t) fin.0 ∙ append-nil (octet_element e v);
+    }
+
+-- an IMSI before it
+pub imsi_and_there : {X : Type 0} (of : ℕ → Option X) (e : Element) (make : Imsi → X → Message) (s : List ℕ) (at v : ℕ) (i : Imsi) (x : X) → drop at s ≡ imsi_element i ++ octet_element e v → lawful_mobile i ≡ true → least_of e ≡ 1 → most_of e ≡ 1 → of v ≡ Some x → imsi_and_at of e make s at ≡ Ok (make i x)
+imsi_and_there of e make s at v i x d l lo hi h =
+    then_there _ (mobile_there s (octet_element e v) at i d l) (then_there _ (last_there of e s (after_imsi at i) v x (mobile_past s (octet_element e v) at i d) lo hi h) refl)
+
+pub record ImsiAnd {X : Type 0} (of : ℕ → Option X) (e : Element) (make : Imsi → X → Message) (s : List ℕ) (at : ℕ) (m : Message) : Type 0 where
+  pub imsi : Imsi
+  pub value : X
+  pub made : make imsi value ≡ m
+  pub lawful : lawful_mobile imsi ≡ true
+  pub octet : ℕ
+  pub stands : of octet ≡ Some value
+  pub is : drop at s ≡ imsi_element imsi ++ octet_element e octet
+
+pub imsi_and_read : {X : Type 0} (of : ℕ → Option X) (e : Element) (make : Imsi → X → Message) (s : List ℕ) (at : ℕ) (m : Message) → least_of e ≡ 1 → most_of e ≡ 1 → imsi_and_at of e make s at ≡ Ok m → ImsiAnd of e make s at m
+imsi_and_read of e make s at m lo hi r =
+    let a = then_ok (mobile_at s at) _ m r in
     let i = a.0 in
     let mo = mobile_read s at i a.1 in
-    let b = then_ok (coded_at of s (after_imsi at i) e) _ p a.2 in
-    let x = b.0 in
-    let cd = coded_read of s (after_imsi at i) e x lo hi b.1 in
-    let fin = end_read s (after_imsi at i + 3) (i, x) p b.2 in
-    let v = cd.octet in
-    subst (λ w. ImsiAnd of e s at w.0 w.1) fin.1
-    (record {
+    let b = then_ok (last_at of e s (after_imsi at i)) _ m a.2 in
+    let la = last_read of e s (after_imsi at i) b.0 lo hi b.1 in
+    record {
+      imsi = i;
+      value = b.0;
+      made = same_ok _ m b.2;
       lawful = mo.lawful;
-      octet = v;
-      stands = cd.stands;
-      is = mo.is ∙ ap (λ t. imsi_element i ++ t) (cd.is ∙ ap (λ t. octet_element e v ++ t) fin.0 ∙ append-nil (octet_element e v));
-    })
+      octet = la.octet;
+      stands = la.stands;
+      is = mo.is ∙ ap (λ t. imsi_element i ++ t) la.is;
+    }

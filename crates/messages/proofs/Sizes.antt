@@ -40,8 +40,6 @@ short (Paging i t c) l =
     let b = channel_size_lem c in
     let d = length-append (tmsi_element t) (channel_element c) in
     omega arith
-short (PagingFailure i c) l = imsi_and_short i 1 (cause_octet c) el.Cause l
-short (MobileStatus i c) l = imsi_and_short i 2 (cause_octet c) el.Cause l
 short (LuRequest i u o n c) l =
     let a = and_parts (lawful_mobile i) _ l in
     let b = and_parts (lawful_area o) (lawful_area n) a.1 in
@@ -60,12 +58,7 @@ short (LuAccept i n) l =
     let h = with_imsi i (area_element el.NewArea n) a.0 in
     omega arith
 short (LuReject i c) l = imsi_and_short i 8 c.number el.RejectCause (and_parts (lawful_mobile i) (lawful_reject c) l).0
-short (Reset e) l = omega arith
-short (ResetAcknowledge e) l = omega arith
-short (GprsDetachIndication i t) l = imsi_and_short i 14 (gprs_detach_octet t) el.GprsDetachType l
-short (GprsDetachAcknowledge i t) l = imsi_and_short i 15 (gprs_detach_octet t) el.GprsDetachType l
-short (ImsiDetachIndication i t) l = imsi_and_short i 17 (imsi_detach_octet t) el.ImsiDetachType l
-short (ImsiDetachAcknowledge i t) l = imsi_and_short i 18 (imsi_detach_octet t) el.ImsiDetachType l
+short m l = search (arith, l, imsi_and_short)
 
 -- every message has its type octet
 pub some : (m : Message) → 1 ≤ length (octets_of m)

@@ -17,11 +17,12 @@ use Rattle.elements.proofs.Elements.{coded_there}
 use Rattle.elements.proofs.Optional.{tmsi_there, channel_there}
 use Rattle.messages.specs.declared.message.Message.{Message}
 use Rattle.messages.specs.declared.message.Message.TheVariants.{Paging, PagingFailure, MobileStatus, LuRequest, LuAccept, LuReject, Reset, ResetAcknowledge, GprsDetachIndication, GprsDetachAcknowledge, ImsiDetachIndication, ImsiDetachAcknowledge}
+use Rattle.messages.specs.Kinds.{octet_of, kind_of}
 use Rattle.messages.specs.Lawful.{lawful_mobile, lawful_tmsi, lawful_channel, lawful_area, lawful_reject, lawful_message}
 use Rattle.elements.specs.Reading.{after_tmsi, after_channel}
-use Rattle.messages.specs.Reading.{after_imsi, paging_at, lu_request_at, lu_accept_at, entity_at, message_at}
-use Rattle.messages.specs.Spelling.{octets_of}
-use Rattle.messages.proofs.Parts.{type_there, mobile_there, mobile_past, imsi_and_there, end_there}
+use Rattle.messages.specs.Reading.{after_imsi, paging_at, lu_request_at, lu_accept_at, body_at, message_at}
+use Rattle.messages.specs.Spelling.{elements_of, octets_of}
+use Rattle.messages.proofs.Parts.{type_there, mobile_there, mobile_past, last_there, imsi_and_there, end_there}
 
 tmsi_small : (t : Option ℕ) → lawful_tmsi t ≡ true → (n : ℕ) → t ≡ Some n → n < 4294967296
 tmsi_small t l n e = ltb-true n 4294967296 (sym (ap lawful_tmsi e) ∙ l)
@@ -91,27 +92,21 @@ lu_accept_there s at i n l d =
     (then_there _ (area_there s [] p el.NewArea n r1 refl refl five-n)
     (end_there s (p + 7) (LuAccept i n) r2))
 
-entity_read_there : (s : List ℕ) (at : ℕ) (e : NodeNumber) → lawful_node e ≡ true → drop at s ≡ octet_element el.Entity e.number → entity_at s at ≡ Ok e
-entity_read_there s at e l d =
-    let r1 = d ∙ sym (append-nil (octet_element el.Entity e.number)) in
-    then_there _ (coded_there entity_in s [] at e.number el.Entity e r1 refl refl (entity_there e l)) (end_there s (at + 3) e (past s (octet_element el.Entity e.number) [] at (at + 3) r1 refl))
-
--- the octets behind the type octet
-behind : (s xs : List ℕ) (at t : ℕ) → drop at s ≡ t ∷ xs → drop (at + 1) s ≡ xs
-behind s xs at t d = past s (t ∷ []) xs at (at + 1) d refl
+body_there : (s : List ℕ) (at : ℕ) (m : Message) → lawful_message m ≡ true → drop at s ≡ elements_of m → body_at s at (kind_of m) ≡ Ok m
+body_there s at (Paging i t c) l d = paging_there s at i t c l d
+body_there s at (PagingFailure i c) l d = imsi_and_there cause_in el.Cause PagingFailure s at (cause_octet c) i c d l refl refl (cause_there c)
+body_there s at (MobileStatus i c) l d = imsi_and_there cause_in el.Cause MobileStatus s at (cause_octet c) i c d l refl refl (cause_there c)
+body_there s at (LuRequest i u o n c) l d = lu_request_there s at i u o n c l d
+body_there s at (LuAccept i n) l d = lu_accept_there s at i n l d
+body_there s at (LuReject i c) l d =
+    let a = and_parts (lawful_mobile i) (lawful_reject c) l in
+    imsi_and_there reject_in el.RejectCause LuReject s at c.number i c d a.0 refl refl (reject_there c (leb-true 1 c.number a.1))
+body_there s at (Reset e) l d = then_there _ (last_there entity_in el.Entity s at e.number e d refl refl (entity_there e l)) refl
+body_there s at (ResetAcknowledge e) l d = then_there _ (last_there entity_in el.Entity s at e.number e d refl refl (entity_there e l)) refl
+body_there s at (GprsDetachIndication i t) l d = imsi_and_there gprs_detach_in el.GprsDetachType GprsDetachIndication s at (gprs_detach_octet t) i t d l refl refl (gprs_there t)
+body_there s at (GprsDetachAcknowledge i t) l d = imsi_and_there gprs_detach_in el.GprsDetachType GprsDetachAcknowledge s at (gprs_detach_octet t) i t d l refl refl (gprs_there t)
+body_there s at (ImsiDetachIndication i t) l d = imsi_and_there imsi_detach_in el.ImsiDetachType ImsiDetachIndication s at (imsi_detach_octet t) i t d l refl refl (imsi_there t)
+body_there s at (ImsiDetachAcknowledge i t) l d = imsi_and_there imsi_detach_in el.ImsiDetachType ImsiDetachAcknowledge s at (imsi_detach_octet t) i t d l refl refl (imsi_there t)
 
 pub there : (s : List ℕ) (at : ℕ) (m : Message) → lawful_message m ≡ true → drop at s ≡ octets_of m → message_at s at ≡ Ok m
-there s at (Paging i t c) l d = type_there s _ at 0 d ∙ paging_there s (at + 1) i t c l (behind s _ at 0 d)
-there s at (PagingFailure i c) l d = type_there s _ at 1 d ∙ then_there _ (imsi_and_there cause_in el.Cause s (at + 1) (cause_octet c) i c (behind s _ at 1 d) l refl refl (cause_there c)) refl
-there s at (MobileStatus i c) l d = type_there s _ at 2 d ∙ then_there _ (imsi_and_there cause_in el.Cause s (at + 1) (cause_octet c) i c (behind s _ at 2 d) l refl refl (cause_there c)) refl
-there s at (LuRequest i u o n c) l d = type_there s _ at 6 d ∙ lu_request_there s (at + 1) i u o n c l (behind s _ at 6 d)
-there s at (LuAccept i n) l d = type_there s _ at 7 d ∙ lu_accept_there s (at + 1) i n l (behind s _ at 7 d)
-there s at (LuReject i c) l d =
-    let a = and_parts (lawful_mobile i) (lawful_reject c) l in
-    type_there s _ at 8 d ∙ then_there _ (imsi_and_there reject_in el.RejectCause s (at + 1) c.number i c (behind s _ at 8 d) a.0 refl refl (reject_there c (leb-true 1 c.number a.1))) refl
-there s at (Reset e) l d = type_there s _ at 9 d ∙ then_there _ (entity_read_there s (at + 1) e l (behind s _ at 9 d)) refl
-there s at (ResetAcknowledge e) l d = type_there s _ at 10 d ∙ then_there _ (entity_read_there s (at + 1) e l (behind s _ at 10 d)) refl
-there s at (GprsDetachIndication i t) l d = type_there s _ at 14 d ∙ then_there _ (imsi_and_there gprs_detach_in el.GprsDetachType s (at + 1) (gprs_detach_octet t) i t (behind s _ at 14 d) l refl refl (gprs_there t)) refl
-there s at (GprsDetachAcknowledge i t) l d = type_there s _ at 15 d ∙ then_there _ (imsi_and_there gprs_detach_in el.GprsDetachType s (at + 1) (gprs_detach_octet t) i t (behind s _ at 15 d) l refl refl (gprs_there t)) refl
-there s at (ImsiDetachIndication i t) l d = type_there s _ at 17 d ∙ then_there _ (imsi_and_there imsi_detach_in el.ImsiDetachType s (at + 1) (imsi_detach_octet t) i t (behind s _ at 17 d) l refl refl (imsi_there t)) refl
-there s at (ImsiDetachAcknowledge i t) l d = type_there s _ at 18 d ∙ then_there _ (imsi_and_there imsi_detach_in el.ImsiDetachType s (at + 1) (imsi_detach_octet t) i t (behind s _ at 18 d) l refl refl (imsi_there t)) refl
+there s at m l d = type_there s (elements_of m) at (kind_of m) d ∙ body_there s (at + 1) m l (past s (octet_of (kind_of m) ∷ []) (elements_of m) at (at + 1) d refl)

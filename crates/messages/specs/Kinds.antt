@@ -1,5 +1,6 @@
 -- The kinds of message: their type octets, and the kind of each message.
-use Rattle.std.specs.Prelude.{◌≡◌, ℕ, ◌≢◌, Result, MatchResult}
+use Rattle.std.specs.Prelude.{◌≡◌, ℕ, ◌≢◌, List, [], ◌∷◌, Option, Result, MatchResult, ◌==◌}
+use Rattle.std.specs.List.{find}
 use Rattle.messages.specs.declared.kind.MessageType.{MessageType}
 use Rattle.messages.specs.declared.kind.MessageType.TheVariants as kind
 use Rattle.messages.specs.declared.kind.UnknownType.{UnknownType}
@@ -19,6 +20,20 @@ octet_of kind.GprsDetachIndication = 14
 octet_of kind.GprsDetachAcknowledge = 15
 octet_of kind.ImsiDetachIndication = 17
 octet_of kind.ImsiDetachAcknowledge = 18
+
+-- all of them
+abbrev pub kinds : List MessageType
+kinds =
+    kind.Paging ∷ kind.PagingFailure ∷ kind.MobileStatus
+    ∷ kind.LuRequest ∷ kind.LuAccept ∷ kind.LuReject
+    ∷ kind.Reset ∷ kind.ResetAcknowledge
+    ∷ kind.GprsDetachIndication ∷ kind.GprsDetachAcknowledge
+    ∷ kind.ImsiDetachIndication ∷ kind.ImsiDetachAcknowledge
+    ∷ []
+
+-- the kind that has this octet
+abbrev pub kind_in : ℕ → Option MessageType
+kind_in n = find (λ k. octet_of k == n) kinds
 
 -- the kind that has this octet, or the octet itself, which no kind has
 abbrev pub TypeOf : ℕ → Result MessageType UnknownType → Type 0

@@ -1,7 +1,6 @@
 // Octets to messages.
-ghost use Rattle.std.specs.Prelude.{◌≡◌, ◌+◌, drop, IfOk, OnOk, MatchResult};
-ghost use Rattle.messages.specs.Kinds.{octet_of};
-ghost use Rattle.messages.specs.Reading.{after_imsi, mobile_at, imsi_and_at, paging_at, lu_request_at, lu_accept_at, entity_at, body_at, message_at, ReadsExactly};
+ghost use Rattle.std.specs.Prelude.{◌≡◌, ◌+◌, drop, IfOk, OnOk};
+ghost use Rattle.messages.specs.Reading.{after_imsi, mobile_at, last_at, paging_at, lu_request_at, lu_accept_at, kind_at, message_at, ReadsExactly};
 
 use crate::kind::MessageType;
 use crate::message::Message;
@@ -9,7 +8,6 @@ use elements::area::Area;
 use elements::code::Coded;
 use elements::element::Element;
 use elements::fault::{Fault, FaultKind};
-use elements::node::NodeNumber;
 use elements::reader::Reader;
 use imsi::Imsi;
 
@@ -25,14 +23,13 @@ fn mobile(from: &mut Reader) -> Result<Imsi, Fault>
     Ok(Imsi { digits, value })
 }
 
-// An IMSI and one coded element, then the end: the shape of seven of the messages.
-fn imsi_and<T: Coded + Drop>(mut from: Reader, element: Element) -> Result<(Imsi, T), Fault>
-    ensures { result ≡ imsi_and_at T.Coded.value_in element from.entry.octets.now from.entry.at }
+// The value of an element of one octet, which must be the last.
+fn last<T: Coded + Drop>(mut from: Reader, element: Element) -> Result<T, Fault>
+    ensures { result ≡ last_at T.Coded.value_in element from.entry.octets.now from.entry.at }
 {
-    let imsi = mobile(&mut from)?;
     let value = from.coded(element)?;
     from.end()?;
-    Ok((imsi, value))
+    Ok(value)
 }
 
 fn paging(mut from: Reader) -> Result<Message, Fault>
@@ -76,19 +73,9 @@ fn lu_accept(mut from: Reader) -> Result<Message, Fault>
     Ok(Message::LuAccept { imsi, new_area })
 }
 
-// An entity, then the end.
-fn entity(mut from: Reader) -> Result<NodeNumber, Fault>
-    ensures { result ≡ entity_at from.entry.octets.now from.entry.at }
-{
-    let entity = from.coded(Element::Entity)?;
-    from.end()?;
-    Ok(entity)
-}
-
 // The type that a message begins with.
 fn message_type(from: &mut Reader) -> Result<MessageType, Fault>
-    ensures value { MatchResult result (λ k. message_at from.old.octets.now from.old.at ≡ body_at from.old.octets.now from.old.at (octet_of k))
-        (λ f. message_at from.old.octets.now from.old.at ≡ Err f) }
+    ensures value { result ≡ kind_at from.old.octets.now from.old.at }
     ensures after { OnOk result (from.new ≡ record from.old { at = from.old.at + 1 }) }
 {
     let unknown = FaultKind::MessageType.at(from.at);
@@ -102,44 +89,42 @@ fn message(mut from: Reader) -> Result<Message, Fault>
 {
     match message_type(&mut from)? {
         MessageType::Paging => paging(from),
-        MessageType::PagingFailure => {
-            let (imsi, cause) = imsi_and(from, Element::Cause)?;
-            Ok(Message::PagingFailure { imsi, cause })
-        }
-        MessageType::MobileStatus => {
-            let (imsi, cause) = imsi_and(from, Element::Cause)?;
-            Ok(Message::MobileStatus { imsi, cause })
-        }
+        MessageType::PagingFailure => Ok(Message::PagingFailure {
+            imsi: mobile(&mut from)?,
+            cause: last(from, Element::Cause)?,
+        }),
+        MessageType::MobileStatus => Ok(Message::MobileStatus {
+            imsi: mobile(&mut from)?,
+            cause: last(from, Element::Cause)?,
+        }),
         MessageType::LuRequest => lu_request(from),
         MessageType::LuAccept => lu_accept(from),
-        MessageType::LuReject => {
-            let (imsi, cause) = imsi_and(from, Element::RejectCause)?;
-            Ok(Message::LuReject { imsi, cause })
-        }
-        MessageType::Reset => {
-            let entity = entity(from)?;
-            Ok(Message::Reset { entity })
-        }
-        MessageType::ResetAcknowledge => {
-            let entity = entity(from)?;
-            Ok(Message::ResetAcknowledge { entity })
-        }
-        MessageType::GprsDetachIndication => {
-            let (imsi, detach) = imsi_and(from, Element::GprsDetachType)?;
-            Ok(Message::GprsDetachIndication { imsi, detach })
-        }
-        MessageType::GprsDetachAcknowledge => {
-            let (imsi, detach) = imsi_and(from, Element::GprsDetachType)?;
-            Ok(Message::GprsDetachAcknowledge { imsi, detach })
-        }
-        MessageType::ImsiDetachIndication => {
-            let (imsi, detach) = imsi_and(from, Element::ImsiDetachType)?;
-            Ok(Message::ImsiDetachIndication { imsi, detach })
-        }
-        MessageType::ImsiDetachAcknowledge => {
-            let (imsi, detach) = imsi_and(from, Element::ImsiDetachType)?;
-            Ok(Message::ImsiDetachAcknowledge { imsi, detach })
-        }
+        MessageType::LuReject => Ok(Message::LuReject {
+            imsi: mobile(&mut from)?,
+            cause: last(from, Element::RejectCause)?,
+        }),
+        MessageType::Reset => Ok(Message::Reset {
+            entity: last(from, Element::Entity)?,
+        }),
+        MessageType::ResetAcknowledge => Ok(Message::ResetAcknowledge {
+            entity: last(from, Element::Entity)?,
+        }),
+        MessageType::GprsDetachIndication => Ok(Message::GprsDetachIndication {
+            imsi: mobile(&mut from)?,
+            detach: last(from, Element::GprsDetachType)?,
+        }),
+        MessageType::GprsDetachAcknowledge => Ok(Message::GprsDetachAcknowledge {
+            imsi: mobile(&mut from)?,
+            detach: last(from, Element::GprsDetachType)?,
+        }),
+        MessageType::ImsiDetachIndication => Ok(Message::ImsiDetachIndication {
+            imsi: mobile(&mut from)?,
+            detach: last(from, Element::ImsiDetachType)?,
+        }),
+        MessageType::ImsiDetachAcknowledge => Ok(Message::ImsiDetachAcknowledge {
+            imsi: mobile(&mut from)?,
+            detach: last(from, Element::ImsiDetachType)?,
+        }),
     }
 }
 
