@@ -1,5 +1,5 @@
 -- What the two functions answer, and what they leave.
-use Rattle.std.specs.Prelude.{ℕ, ◌+◌, ◌*◌, cond, List, ◌++◌, length, drop, Ok, Err, Result, nat_lt}
+use Rattle.std.specs.Prelude.{ℕ, ◌+◌, ◌*◌, if◌then◌else◌, List, ◌++◌, length, drop, Ok, Err, Result, nat_lt}
 use Rattle.elements.specs.declared.fault.Fault.{Fault}
 use Rattle.elements.specs.Faults.{fault_number, and_then}
 use Rattle.frames.specs.declared.frame.Frame.{Frame}
@@ -10,7 +10,7 @@ use Rattle.capi.specs.Taken.{frame_from}
 
 -- a fault's number and its place
 abbrev pub refusal_of : Fault → ℕ
-refusal_of d = 256 * fault_number d.kind + cond (nat_lt d.place 255) d.place 255
+refusal_of d = 256 * fault_number d.kind + (if nat_lt d.place 255 then d.place else 255)
 
 abbrev pub field_count : ℕ
 field_count = 15
@@ -28,10 +28,10 @@ row_left (Ok f) b = row_of f ++ drop field_count b
 row_left (Err d) b = b
 
 abbrev pub read_answer : List ℕ → List ℕ → ℕ
-read_answer s b = cond (nat_lt (length b) field_count) too_few (read_reply (frame_in s))
+read_answer s b = if nat_lt (length b) field_count then too_few else read_reply (frame_in s)
 
 abbrev pub read_fields : List ℕ → List ℕ → List ℕ
-read_fields s b = cond (nat_lt (length b) field_count) b (row_left (frame_in s) b)
+read_fields s b = if nat_lt (length b) field_count then b else row_left (frame_in s) b
 
 abbrev pub write_reply : Result ℕ Fault → ℕ
 write_reply (Ok n) = n
@@ -42,7 +42,9 @@ buffer_left (Ok f) b = frame_left f b
 buffer_left (Err d) b = b
 
 abbrev pub write_answer : List ℕ → List ℕ → ℕ
-write_answer s b = cond (nat_lt (length s) field_count) too_few (write_reply (and_then (frame_from s) (λ f. frame_written f b)))
+write_answer s b =
+    if nat_lt (length s) field_count then too_few
+    else write_reply (and_then (frame_from s) (λ f. frame_written f b))
 
 abbrev pub write_buffer : List ℕ → List ℕ → List ℕ
-write_buffer s b = cond (nat_lt (length s) field_count) b (buffer_left (frame_from s) b)
+write_buffer s b = if nat_lt (length s) field_count then b else buffer_left (frame_from s) b

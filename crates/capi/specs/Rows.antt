@@ -1,5 +1,5 @@
 -- A frame as a row of numbers.
-use Rattle.std.specs.Prelude.{ℕ, ◌+◌, ◌*◌, cond, List, [], ◌∷◌, length, Some, None, Option, nat_lt, slice_index}
+use Rattle.std.specs.Prelude.{ℕ, ◌+◌, ◌*◌, if◌then◌else◌, List, [], ◌∷◌, length, Some, None, Option, nat_lt, slice_index}
 use Rattle.imsi.specs.declared.Imsi.{Imsi}
 use Rattle.elements.specs.declared.area.LocationArea.{LocationArea}
 use Rattle.elements.specs.Codes.{cause_octet, update_octet, class_octet, gprs_detach_octet, imsi_detach_octet}
@@ -70,7 +70,7 @@ abbrev pub row_at : List ℕ → Row
 row_at s = record { source = slice_index s 0; destination = slice_index s 1; stamp = slice_index s 2; answers = slice_index s 3; kind = slice_index s 4; digits = slice_index s 5; value = slice_index s 6; has_tmsi = slice_index s 7; tmsi = slice_index s 8; has_channel = slice_index s 9; channel = slice_index s 10; code = slice_index s 11; old_area = slice_index s 12; new_area = slice_index s 13; class = slice_index s 14 }
 
 abbrev pub row_in_front : List ℕ → Option Row
-row_in_front s = cond (nat_lt (length s) 15) None (Some (row_at s))
+row_in_front s = if nat_lt (length s) 15 then None else Some (row_at s)
 
 abbrev pub row_of : Frame → List ℕ
 row_of f = f.source.number ∷ f.destination.number ∷ f.stamp ∷ f.answers ∷ body_row (body_of f.message)

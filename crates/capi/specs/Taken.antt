@@ -1,5 +1,5 @@
 -- The frame that a row of numbers says, or the first fault in the order of the row.
-use Rattle.std.specs.Prelude.{◌≡◌, ◌≢◌, ℕ, ◌/◌, ◌%◌, cond, List, [], ◌∷◌, Some, None, Ok, Err, Option, Result, ◌==◌, nat_lt, slice_index}
+use Rattle.std.specs.Prelude.{◌≡◌, ◌≢◌, ℕ, ◌/◌, ◌%◌, if◌then◌else◌, List, [], ◌∷◌, Some, None, Ok, Err, Option, Result, ◌==◌, nat_lt, slice_index}
 use Rattle.imsi.specs.declared.Imsi.{Imsi}
 use Rattle.elements.specs.declared.area.LocationArea.{LocationArea}
 use Rattle.elements.specs.declared.fault.Fault.{Fault}
@@ -33,7 +33,7 @@ FittedOption {X} {E} gives flag n (Err f) = (f ≡ fault_of fault.Contents) × (
 
 -- a number below a limit, or this fault
 abbrev pub below : ℕ → FaultKind → ℕ → Result ℕ Fault
-below limit k n = cond (nat_lt n limit) (Ok n) (wrong k 0)
+below limit k n = if nat_lt n limit then Ok n else wrong k 0
 
 abbrev pub node_from : ℕ → Result NodeNumber Fault
 node_from n = and_then (below 256 fault.Nodes n) (λ o. Ok (record { number = o }))
@@ -41,8 +41,9 @@ node_from n = and_then (below 256 fault.Nodes n) (λ o. Ok (record { number = o 
 -- a number that may be absent: a flag of 0 or 1, and the number that is looked at where the flag is 1
 abbrev pub option_from : ℕ → ℕ → ℕ → Result (Option ℕ) Fault
 option_from limit flag n =
-    cond (flag == 0) (Ok None)
-    (cond (flag == 1) (and_then (below limit fault.Contents n) (λ o. Ok (Some o))) (wrong fault.Contents 0))
+    if flag == 0 then Ok None
+    else if flag == 1 then and_then (below limit fault.Contents n) (λ o. Ok (Some o))
+    else wrong fault.Contents 0
 
 -- the value that a number stands for as an octet
 abbrev pub code_from : {X : Type 0} → (ℕ → Option X) → ℕ → Result X Fault

@@ -1,5 +1,5 @@
 -- Octets that travel: 11 to 64 of them.
-use Rattle.std.specs.Prelude.{ℕ, cond, ◌||◌, List, length, take, Some, None, Option, nat_lt}
+use Rattle.std.specs.Prelude.{ℕ, if◌then◌else◌, ◌||◌, List, length, take, Some, None, Option, nat_lt}
 use Rattle.carrier.specs.declared.datagram.Datagram.{Datagram}
 
 abbrev pub octets_in : Datagram → List ℕ
@@ -11,4 +11,4 @@ carried (Some d) = Some (octets_in d)
 
 -- these octets, unless they are too few or too many
 abbrev pub travelling : List ℕ → Option (List ℕ)
-travelling f = cond (nat_lt (length f) 11 || nat_lt 64 (length f)) None (Some f)
+travelling f = if nat_lt (length f) 11 || nat_lt 64 (length f) then None else Some f

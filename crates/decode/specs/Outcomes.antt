@@ -1,5 +1,5 @@
 -- What a line says.
-use Rattle.std.specs.Prelude.{ℕ, Bool, cond, ◌&&◌, List, length, Some, None, Ok, Err, Option, Result, ◌==◌, nat_lt, slice_index}
+use Rattle.std.specs.Prelude.{ℕ, Bool, if◌then◌else◌, ◌&&◌, List, length, Some, None, Ok, Err, Option, Result, ◌==◌, nat_lt, slice_index}
 use Rattle.elements.specs.declared.fault.Fault.{Fault}
 use Rattle.frames.specs.declared.frame.Frame.{Frame}
 use Rattle.frames.specs.Format.{frame_in}
@@ -18,11 +18,11 @@ told (Err e) = Err (refusal.Fault e)
 
 -- no octets say nothing
 abbrev pub read_in : List ℕ → Option (Result Frame Refusal)
-read_in octets = cond (length octets == 0) None (Some (told (frame_in octets)))
+read_in octets = if length octets == 0 then None else Some (told (frame_in octets))
 
 abbrev pub read_line : Result (List ℕ) BadLine → Option (Result Frame Refusal)
 read_line (Ok octets) = read_in octets
 read_line (Err bad) = Some (Err (refusal.Line bad))
 
 abbrev pub outcome_in : List ℕ → Option (Result Frame Refusal)
-outcome_in line = cond (is_comment line) None (read_line (octets_in 128 line))
+outcome_in line = if is_comment line then None else read_line (octets_in 128 line)

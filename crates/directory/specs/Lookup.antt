@@ -1,5 +1,5 @@
 -- Records by mobile: looking one up, storing one, and whether there is room.
-use Rattle.std.specs.Prelude.{◌≡◌, ℕ, ◌≤◌, Bool, true, false, cond, ◌||◌, List, [], ◌∷◌, length, take, is_some, Some, None, Option, nat_lt}
+use Rattle.std.specs.Prelude.{◌≡◌, ℕ, ◌≤◌, Bool, true, false, if◌then◌else◌, ◌||◌, List, [], ◌∷◌, length, take, is_some, Some, None, Option, nat_lt}
 use Rattle.std.specs.Option.{option_map}
 use Rattle.imsi.specs.declared.Imsi.{Imsi}
 use Rattle.directory.specs.Order.{rank_of, same, Climbs}
@@ -7,12 +7,18 @@ use Rattle.directory.specs.Order.{rank_of, same, Climbs}
 -- the record of this mobile, looked for up to the first greater one
 abbrev pub at : {R : Type 0} → (R → Imsi) → List R → Imsi → Option R
 at w [] m = None
-at w (x ∷ xs) m = cond (same m (w x)) (Some x) (cond (nat_lt (rank_of m) (rank_of (w x))) None (at w xs m))
+at w (x ∷ xs) m =
+    if same m (w x) then Some x
+    else if nat_lt (rank_of m) (rank_of (w x)) then None
+    else at w xs m
 
 -- the records with this one over the one of its mobile, or before the first greater one
 abbrev pub stored : {R : Type 0} → (R → Imsi) → R → List R → List R
 stored w r [] = r ∷ []
-stored w r (x ∷ xs) = cond (same (w r) (w x)) (r ∷ xs) (cond (nat_lt (rank_of (w r)) (rank_of (w x))) (r ∷ x ∷ xs) (x ∷ stored w r xs))
+stored w r (x ∷ xs) =
+    if same (w r) (w x) then r ∷ xs
+    else if nat_lt (rank_of (w r)) (rank_of (w x)) then r ∷ x ∷ xs
+    else x ∷ stored w r xs
 
 -- whether a record of this mobile has a place: it is held, or a place is free
 abbrev pub fits : {R : Type 0} → (R → Imsi) → ℕ → List R → Imsi → Bool
@@ -20,7 +26,7 @@ fits w places xs m = is_some (at w xs m) || nat_lt (length xs) places
 
 -- after a store a mobile's record is the one stored if it is that mobile's, else the one before
 abbrev pub AfterStore : {R : Type 0} → (R → Imsi) → R → List R → List R → Type 0
-AfterStore w r before after = (m : Imsi) → at w after m ≡ cond (same m (w r)) (Some r) (at w before m)
+AfterStore w r before after = (m : Imsi) → at w after m ≡ (if same m (w r) then Some r else at w before m)
 
 -- after a change of every record, which keeps each one's mobile, a mobile's record is the one before, changed; and the records still rise
 abbrev pub AfterChange : {R : Type 0} → (R → Imsi) → (R → R) → List R → List R → Type 0

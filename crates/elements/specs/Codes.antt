@@ -1,5 +1,5 @@
 -- The octets of the codes. A code is read as the case that is written so.
-use Rattle.std.specs.Prelude.{ℕ, cond, Some, None, Option, ◌==◌}
+use Rattle.std.specs.Prelude.{ℕ, if◌then◌else◌, Some, None, Option, ◌==◌}
 use Rattle.elements.specs.declared.code.Cause.{Cause}
 use Rattle.elements.specs.declared.code.Cause.TheVariants as cause
 use Rattle.elements.specs.declared.code.UpdateType.{UpdateType}
@@ -16,7 +16,7 @@ use Rattle.elements.specs.Nodes.{lawful_node}
 
 -- the one of two cases that is written as this octet
 abbrev pub either_in : {X : Type 0} → (X → ℕ) → X → X → ℕ → Option X
-either_in octet a b n = cond (n == octet a) (Some a) (cond (n == octet b) (Some b) None)
+either_in octet a b n = if n == octet a then Some a else if n == octet b then Some b else None
 
 abbrev pub cause_octet : Cause → ℕ
 cause_octet cause.NotAttached = 1
@@ -55,8 +55,8 @@ imsi_detach_in = either_in imsi_detach_octet imsi.Unacknowledged imsi.Acknowledg
 
 -- any octet but 0
 abbrev pub reject_in : ℕ → Option RejectCause
-reject_in n = cond (n == 0) None (Some (record { number = n }))
+reject_in n = if n == 0 then None else Some (record { number = n })
 
 -- the octet of a lawful node
 abbrev pub entity_in : ℕ → Option NodeNumber
-entity_in n = cond (lawful_node (record { number = n })) (Some (record { number = n })) None
+entity_in n = if lawful_node (record { number = n }) then Some (record { number = n }) else None

@@ -1,5 +1,5 @@
 -- Reading one element at a place.
-use Rattle.std.specs.Prelude.{ℕ, ◌+◌, ◌*◌, Bool, cond, ◌&&◌, List, [], ◌∷◌, length, take, drop, Some, None, Ok, Option, Result, ◌==◌, nat_le, nat_lt, slice_index}
+use Rattle.std.specs.Prelude.{ℕ, ◌+◌, ◌*◌, Bool, if◌then◌else◌, ◌&&◌, List, [], ◌∷◌, length, take, drop, Some, None, Ok, Option, Result, ◌==◌, nat_le, nat_lt, slice_index}
 use Rattle.imsi.specs.Spelling.{imsi_in}
 use Rattle.elements.specs.declared.area.LocationArea.{LocationArea}
 use Rattle.elements.specs.declared.element.Element.{Element}
@@ -13,14 +13,19 @@ use Rattle.elements.specs.Table.{identifier_of, least_of, most_of}
 abbrev pub next_is : List ℕ → ℕ → Element → Bool
 next_is s at e = nat_lt at (length s) && slice_index s at == identifier_of e
 
+-- the length octet behind this element's identifier is one that the element and the end allow
+abbrev pub fits_at : List ℕ → ℕ → Element → Bool
+fits_at s at e =
+    nat_lt (at + 1) (length s)
+    && (nat_le (least_of e) (slice_index s (at + 1))
+    && (nat_le (slice_index s (at + 1)) (most_of e)
+    && nat_le (at + 2 + slice_index s (at + 1)) (length s)))
+
 -- how many content octets the element at this place has: its identifier, a length octet, then so many octets
 abbrev pub element_at : List ℕ → ℕ → Element → Result ℕ Fault
 element_at s at e =
-    cond (next_is s at e)
-    (cond (nat_lt (at + 1) (length s) && (nat_le (least_of e) (slice_index s (at + 1)) && (nat_le (slice_index s (at + 1)) (most_of e) && nat_le (at + 2 + slice_index s (at + 1)) (length s))))
-    (Ok (slice_index s (at + 1)))
-    (wrong kind.Length (at + 1)))
-    (wrong kind.Identifier at)
+    if next_is s at e then (if fits_at s at e then Ok (slice_index s (at + 1)) else wrong kind.Length (at + 1))
+    else wrong kind.Identifier at
 
 -- contents of one octet that stand for a value
 abbrev pub coded_at : {X : Type 0} → (ℕ → Option X) → List ℕ → ℕ → Element → Result X Fault
@@ -36,7 +41,9 @@ number_at s at = slice_index s at * 16777216 + slice_index s (at + 1) * 65536 + 
 
 -- a TMSI, absent unless its identifier is next
 abbrev pub tmsi_at : List ℕ → ℕ → Result (Option ℕ) Fault
-tmsi_at s at = cond (next_is s at el.Tmsi) (and_then (element_at s at el.Tmsi) (λ _. Ok (Some (number_at s (at + 2))))) (Ok None)
+tmsi_at s at =
+    if next_is s at el.Tmsi then and_then (element_at s at el.Tmsi) (λ _. Ok (Some (number_at s (at + 2))))
+    else Ok None
 
 -- the place after a TMSI, present or absent, that would begin at a place
 abbrev pub after_tmsi : ℕ → Option ℕ → ℕ
@@ -45,10 +52,12 @@ after_tmsi at (Some _) = at + 6
 
 -- a channel of 0 to 3, absent unless its identifier is next
 abbrev pub channel_in : ℕ → Option ℕ
-channel_in n = cond (nat_le n 3) (Some n) None
+channel_in n = if nat_le n 3 then Some n else None
 
 abbrev pub channel_at : List ℕ → ℕ → Result (Option ℕ) Fault
-channel_at s at = cond (next_is s at el.Channel) (and_then (coded_at channel_in s at el.Channel) (λ c. Ok (Some c))) (Ok None)
+channel_at s at =
+    if next_is s at el.Channel then and_then (coded_at channel_in s at el.Channel) (λ c. Ok (Some c))
+    else Ok None
 
 -- the place after a channel
 abbrev pub after_channel : ℕ → Option ℕ → ℕ
@@ -61,4 +70,4 @@ area_at s at e = and_then (element_at s at e) (λ n. Ok (record { octets = slice
 
 -- the place after the last element must be the end
 abbrev pub end_at : {X : Type 0} → List ℕ → ℕ → X → Result X Fault
-end_at s at x = cond (nat_lt at (length s)) (wrong kind.Trailing at) (Ok x)
+end_at s at x = if nat_lt at (length s) then wrong kind.Trailing at else Ok x

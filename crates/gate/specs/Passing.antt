@@ -1,5 +1,5 @@
 -- What the gate makes of what comes from below.
-use Rattle.std.specs.Prelude.{◌≡◌, ℕ, cond, List, Some, None, Ok, Err, Option, Result}
+use Rattle.std.specs.Prelude.{◌≡◌, ℕ, if◌then◌else◌, List, Some, None, Ok, Err, Option, Result}
 use Rattle.elements.specs.declared.fault.Fault.{Fault}
 use Rattle.elements.specs.declared.node.NodeNumber.{NodeNumber}
 use Rattle.frames.specs.declared.frame.Frame.{Frame}
@@ -11,8 +11,8 @@ use Rattle.gate.specs.Rows.{fresh, noted}
 abbrev pub Heard : List Pair → List ℕ → Result Frame Fault → Option (List ℕ) → List Pair → Type 0
 Heard ps o (Err d) r qs = (r ≡ None) × (qs ≡ ps)
 Heard ps o (Ok f) r qs =
-    (r ≡ cond (fresh ps f.source f.destination f.stamp) (Some o) None)
-    × (qs ≡ cond (fresh ps f.source f.destination f.stamp) (noted ps f.source f.destination f.stamp) ps)
+    (r ≡ if fresh ps f.source f.destination f.stamp then Some o else None)
+    × (qs ≡ if fresh ps f.source f.destination f.stamp then noted ps f.source f.destination f.stamp else ps)
 
 abbrev pub Passed : List Pair → Option (List ℕ) → Option (List ℕ) → List Pair → Type 0
 Passed ps None r qs = (r ≡ None) × (qs ≡ ps)

@@ -1,5 +1,5 @@
 -- The rows of the gate: the latest stamp given of each pair of nodes, in the order in which pairs were first given.
-use Rattle.std.specs.Prelude.{ℕ, Bool, true, false, cond, ◌&&◌, List, [], ◌∷◌, length, Option, nat_lt}
+use Rattle.std.specs.Prelude.{ℕ, Bool, true, false, if◌then◌else◌, ◌&&◌, List, [], ◌∷◌, length, Option, nat_lt}
 use Rattle.std.specs.List.{position}
 use Rattle.elements.specs.declared.node.NodeNumber.{NodeNumber}
 use Rattle.elements.specs.Nodes.{same_node}
@@ -23,17 +23,17 @@ spot a b ps = position (is_of a b) ps
 -- the latest stamp from a to b, 0 when new
 abbrev pub last_given_in : List Pair → NodeNumber → NodeNumber → ℕ
 last_given_in [] a b = 0
-last_given_in (p ∷ ps) a b = cond (is_of a b p) p.stamp (last_given_in ps a b)
+last_given_in (p ∷ ps) a b = if is_of a b p then p.stamp else last_given_in ps a b
 
 abbrev pub known : List Pair → NodeNumber → NodeNumber → Bool
 known [] a b = false
-known (p ∷ ps) a b = cond (is_of a b p) true (known ps a b)
+known (p ∷ ps) a b = if is_of a b p then true else known ps a b
 
 -- above the latest stamp, and of a pair that has a row or can get one
 abbrev pub fresh : List Pair → NodeNumber → NodeNumber → ℕ → Bool
-fresh ps a b k = nat_lt (last_given_in ps a b) k && cond (known ps a b) true (nat_lt (length ps) 16)
+fresh ps a b k = nat_lt (last_given_in ps a b) k && (if known ps a b then true else nat_lt (length ps) 16)
 
 -- the rows after this stamp was given
 abbrev pub noted : List Pair → NodeNumber → NodeNumber → ℕ → List Pair
 noted [] a b k = row a b k ∷ []
-noted (p ∷ ps) a b k = cond (is_of a b p) (row a b k ∷ ps) (p ∷ noted ps a b k)
+noted (p ∷ ps) a b k = if is_of a b p then row a b k ∷ ps else p ∷ noted ps a b k

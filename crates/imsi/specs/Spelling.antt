@@ -1,5 +1,5 @@
 -- The octets that spell a digit count and a value.
-use Rattle.std.specs.Prelude.{◌≡◌, ℕ, zero, suc, ◌+◌, ◌-◌, ◌*◌, ◌/◌, ◌%◌, ◌^◌, Bool, true, cond, ◌&&◌, List, [], ◌∷◌, ◌++◌, length, take, drop, Some, None, Option, ◌==◌, nat_le, nat_lt, slice_index}
+use Rattle.std.specs.Prelude.{◌≡◌, ℕ, zero, suc, ◌+◌, ◌-◌, ◌*◌, ◌/◌, ◌%◌, ◌^◌, Bool, true, if◌then◌else◌, ◌&&◌, List, [], ◌∷◌, ◌++◌, length, take, drop, Some, None, Option, ◌==◌, nat_le, nat_lt, slice_index}
 use Rattle.imsi.specs.Halves.{halves, paired}
 
 -- 1 to 15 digits, and a value that so many digits can write
@@ -13,7 +13,7 @@ digits (suc k) v = digits k (v / 10) ++ (v % 10 ∷ [])
 
 -- the half octets: a marker, 9 for an odd count and 1 for an even one; the digits; F behind an even count
 abbrev pub spelt : ℕ → ℕ → List ℕ
-spelt k v = cond (k % 2 == 1) (9 ∷ digits k v) (1 ∷ digits k v ++ 15 ∷ [])
+spelt k v = if k % 2 == 1 then 9 ∷ digits k v else 1 ∷ digits k v ++ 15 ∷ []
 
 abbrev pub imsi_octets : ℕ → ℕ → List ℕ
 imsi_octets k v = paired (spelt k v)
@@ -25,7 +25,7 @@ Spells k v os = (lawful_imsi k v ≡ true) × (imsi_octets k v ≡ os)
 -- the number that digits go on to write after acc, unless one is no digit
 abbrev pub valued : ℕ → List ℕ → Option ℕ
 valued acc [] = Some acc
-valued acc (d ∷ ds) = cond (nat_lt d 10) (valued (acc * 10 + d) ds) None
+valued acc (d ∷ ds) = if nat_lt d 10 then valued (acc * 10 + d) ds else None
 
 abbrev pub counted : ℕ → Option ℕ → Option (ℕ × ℕ)
 counted n None = None
@@ -38,12 +38,13 @@ after n hs = counted n (valued 0 (take n (drop 1 hs)))
 -- what n octets with these halves spell
 abbrev pub in_halves : ℕ → List ℕ → Option (ℕ × ℕ)
 in_halves n hs =
-    cond (slice_index hs 0 == 9) (after (2 * n - 1) hs)
-    (cond (slice_index hs 0 == 1 && (nat_lt 1 n && slice_index hs (2 * n - 1) == 15)) (after (2 * n - 2) hs) None)
+    if slice_index hs 0 == 9 then after (2 * n - 1) hs
+    else if slice_index hs 0 == 1 && (nat_lt 1 n && slice_index hs (2 * n - 1) == 15) then after (2 * n - 2) hs
+    else None
 
 -- what 1 to 8 octets spell
 abbrev pub imsi_in : List ℕ → Option (ℕ × ℕ)
-imsi_in os = cond (nat_le 1 (length os) && nat_le (length os) 8) (in_halves (length os) (halves os)) None
+imsi_in os = if nat_le 1 (length os) && nat_le (length os) 8 then in_halves (length os) (halves os) else None
 
 -- what is read is a lawful IMSI that these octets spell, and every lawful IMSI that they spell is read
 pub record ReadsExactly (os : List ℕ) (r : Option (ℕ × ℕ)) : Type 0 where

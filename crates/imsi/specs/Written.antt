@@ -1,5 +1,5 @@
 -- What the writer answers.
-use Rattle.std.specs.Prelude.{◌≡◌, ℕ, ◌+◌, ◌/◌, cond, Some, None, Option}
+use Rattle.std.specs.Prelude.{◌≡◌, ℕ, ◌+◌, ◌/◌, if◌then◌else◌, Some, None, Option}
 use Rattle.arrayvec.specs.ArrayVec.{ArrayVec}
 use Rattle.imsi.specs.declared.Imsi.{Imsi}
 use Rattle.imsi.specs.Spelling.{lawful_imsi, imsi_octets, imsi_in}
@@ -13,7 +13,7 @@ abbrev pub spelling_of : Imsi → ArrayVec ℕ
 spelling_of i = record { items = imsi_octets i.digits i.value }
 
 abbrev pub written_of : Imsi → Option (ArrayVec ℕ)
-written_of i = cond (lawful_imsi i.digits i.value) (Some (spelling_of i)) None
+written_of i = if lawful_imsi i.digits i.value then Some (spelling_of i) else None
 
 -- reading the octets that are written gives back the IMSI
 abbrev pub ReadBack : Imsi → Option (ArrayVec ℕ) → Type 0

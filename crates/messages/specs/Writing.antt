@@ -1,5 +1,5 @@
 -- What the writer answers, and what it leaves in the buffer.
-use Rattle.std.specs.Prelude.{◌≡◌, ℕ, ◌+◌, ◌≤◌, cond, ◌&&◌, List, ◌++◌, length, take, drop, Ok, Result, nat_le}
+use Rattle.std.specs.Prelude.{◌≡◌, ℕ, ◌+◌, ◌≤◌, if◌then◌else◌, ◌&&◌, List, ◌++◌, length, take, drop, Ok, Result, nat_le}
 use Rattle.elements.specs.declared.fault.Fault.{Fault}
 use Rattle.elements.specs.declared.fault.FaultKind.TheVariants as kind
 use Rattle.elements.specs.Faults.{wrong}
@@ -35,11 +35,13 @@ buffer_size = 64
 
 -- the place after the message that is written from a place on, or the first fault
 abbrev pub written_at : ℕ → Message → List ℕ → Result ℕ Fault
-written_at at m b = cond (lawful_message m) (cond (nat_le buffer_size (length b)) (Ok (at + length (octets_of m))) (wrong kind.Buffer 0)) (wrong kind.Contents 0)
+written_at at m b =
+    if lawful_message m then (if nat_le buffer_size (length b) then Ok (at + length (octets_of m)) else wrong kind.Buffer 0)
+    else wrong kind.Contents 0
 
 -- the whole buffer afterwards
 abbrev pub left_at : ℕ → Message → List ℕ → List ℕ
-left_at at m b = cond (lawful_message m && nat_le buffer_size (length b)) (overlaid at (octets_of m) b) b
+left_at at m b = if lawful_message m && nat_le buffer_size (length b) then overlaid at (octets_of m) b else b
 
 -- reading what was written from a place on gives back the message, which has 31 octets at most
 abbrev pub ReadBack : ℕ → Message → List ℕ → Result ℕ Fault → Type 0

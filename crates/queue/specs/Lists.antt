@@ -1,5 +1,5 @@
 -- The frames of a queue, the oldest first.
-use Rattle.std.specs.Prelude.{ℕ, Bool, cond, List, [], ◌∷◌, ◌++◌, length, Some, None, Option, nat_lt}
+use Rattle.std.specs.Prelude.{ℕ, Bool, if◌then◌else◌, List, [], ◌∷◌, ◌++◌, length, Some, None, Option, nat_lt}
 use Rattle.std.specs.List.{position, find}
 use Rattle.elements.specs.declared.node.NodeNumber.{NodeNumber}
 use Rattle.elements.specs.Nodes.{same_node}
@@ -20,7 +20,7 @@ first_for n fs = find (is_for n) fs
 
 abbrev pub without_first : NodeNumber → List (List ℕ) → List (List ℕ)
 without_first n [] = []
-without_first n (f ∷ fs) = cond (is_for n f) fs (f ∷ without_first n fs)
+without_first n (f ∷ fs) = if is_for n f then fs else f ∷ without_first n fs
 
 -- all of these, and one behind them if there is one
 abbrev pub pushed : List (List ℕ) → Option (List ℕ) → List (List ℕ)
@@ -29,4 +29,4 @@ pushed fs (Some f) = fs ++ f ∷ []
 
 -- what waits after a put of these octets
 abbrev pub added : List ℕ → List (List ℕ) → List (List ℕ)
-added f fs = cond (nat_lt (length fs) 512) (pushed fs (travelling f)) fs
+added f fs = if nat_lt (length fs) 512 then pushed fs (travelling f) else fs

@@ -1,5 +1,5 @@
 -- What a take answers and leaves, by mode.
-use Rattle.std.specs.Prelude.{◌≡◌, ℕ, ◌<◌, Bool, true, false, cond, List, [], ◌∷◌, length, Some, None, Option, MatchOption, IfSome, slice_get}
+use Rattle.std.specs.Prelude.{◌≡◌, ℕ, ◌<◌, Bool, true, false, if◌then◌else◌, List, [], ◌∷◌, length, Some, None, Option, MatchOption, IfSome, slice_get}
 use Rattle.elements.specs.declared.node.NodeNumber.{NodeNumber}
 use Rattle.carrier.specs.declared.datagram.Datagram.{Datagram}
 use Rattle.carrier.specs.Datagrams.{octets_in}
@@ -10,15 +10,15 @@ use Rattle.slip.specs.declared.script.Mode.TheVariants.{GiveOldest, GiveNewest, 
 -- is any of these for the node?
 abbrev pub any_for : NodeNumber → List (List ℕ) → Bool
 any_for n [] = false
-any_for n (f ∷ fs) = cond (is_for n f) true (any_for n fs)
+any_for n (f ∷ fs) = if is_for n f then true else any_for n fs
 
 abbrev pub last_for : NodeNumber → List (List ℕ) → Option (List ℕ)
 last_for n [] = None
-last_for n (f ∷ fs) = cond (any_for n fs) (last_for n fs) (cond (is_for n f) (Some f) None)
+last_for n (f ∷ fs) = if any_for n fs then last_for n fs else if is_for n f then Some f else None
 
 abbrev pub without_last : NodeNumber → List (List ℕ) → List (List ℕ)
 without_last n [] = []
-without_last n (f ∷ fs) = cond (any_for n fs) (f ∷ without_last n fs) (cond (is_for n f) fs (f ∷ fs))
+without_last n (f ∷ fs) = if any_for n fs then f ∷ without_last n fs else if is_for n f then fs else f ∷ fs
 
 -- the newest frame for a node stands at r, or none does
 abbrev pub Newest : NodeNumber → List Datagram → Option ℕ → Type 0
