@@ -1,69 +1,64 @@
 -- A request or a detach of a mobile.
-use Rattle.std.proofs.Common.{◌≡◌, ℕ, ◌+◌, ◌≤◌, Bool, true, false, cond, List, [], Some, None, Option, Ok, refl, sym, subst, arith}
+use Rattle.std.proofs.Common.{◌≡◌, ℕ, ◌+◌, ◌≤◌, Bool, true, false, cond, List, [], Some, None, Option, refl, sym, subst, arith}
+use Rattle.std.proofs.lemmas.Bool.Decides.{nat_tests}
 use Rattle.std.proofs.lemmas.Option.{none-some, same_Some}
 use Rattle.imsi.specs.declared.Imsi.{Imsi}
 use Rattle.elements.specs.declared.code.Class.{Class}
 use Rattle.elements.specs.declared.node.VlrNumber.{VlrNumber}
 use Rattle.elements.specs.Nodes.{same_node}
+use Rattle.directory.specs.Order.{same}
 use Rattle.carrier.specs.Order.{Stamps}
 use Rattle.station.specs.declared.sending.Outgoing.{Outgoing}
 use Rattle.station.specs.Calls.{Plan}
-use Rattle.station.specs.Marks.{node_in}
 use Rattle.context.specs.declared.context.Context.{Context}
+use Rattle.context.specs.declared.errand.Awaited.{Awaited}
+use Rattle.context.specs.declared.errand.Awaited.TheVariants.{Update}
+use Rattle.context.specs.declared.errand.Open.{Open}
+use Rattle.context.specs.declared.errand.Verdict.TheVariants as verdict
 use Rattle.context.specs.declared.kind.Request.{Request}
 use Rattle.context.specs.declared.kind.RequestKind.{RequestKind}
 use Rattle.context.specs.declared.kind.DetachKind.{DetachKind}
-use Rattle.context.specs.declared.kind.DetachKind.TheVariants as kind
+use Rattle.context.specs.Answering.{let_go}
 use Rattle.context.specs.Requesting as context
-use Rattle.context.specs.Detaching.{detached_from}
+use Rattle.context.specs.Detaching.{awaited_by, detach_message, detached_from, waiting_for}
 use Rattle.sgsn.specs.State as sgsn
-use Rattle.sgsn.specs.Requesting.{requested}
-use Rattle.sgsn.specs.Detaching.{detached}
-use Rattle.sgsn.proofs.Granted.{request_granted, detach_granted}
 use Rattle.vlr.specs.State as vlr
-use Rattle.law.specs.Sound.{reset_to}
-use Rattle.law.proofs.Premises.{Sends, SgsnMove}
-use Rattle.law.proofs.Quieter.{none_unsure, unsure_unsure}
-use Rattle.law.proofs.Served.{asks_not}
-use Rattle.law.proofs.OneRecord.{silent, quiet, told}
+use Rattle.law.specs.Sound.{harms, is_acknowledgement, reset_to, update_stamp}
+use Rattle.law.proofs.Quieter.{none_unsure, unsure_unsure, quieter_go}
+use Rattle.law.proofs.OneRecord.{none_sent, Moves, quiet, told}
 
--- an open request asks by its stamp alone
-asks_so : (b : Bool) (x n : ℕ) → cond b (Some x) None ≡ Some n → n ≡ x
-asks_so true x n e = sym (same_Some x n e)
-asks_so false x n e = absurd (none-some n e)
+-- what is open asks by its stamp alone
+asks_so : (b : Bool) (o : Open) (a : Awaited) (n : ℕ) → cond b (update_stamp o a) None ≡ Some n → n ≡ o.stamp
+asks_so true o (Update l) n e = sym (same_Some o.stamp n e)
+asks_so b o a n e = grind (arith, nat_tests)
+
+-- what tells of a detach acknowledges nothing, and harms no other mobile
+unacknowledging : (k : DetachKind) (i : Imsi) → is_acknowledgement (detach_message k i) ≡ false
+unacknowledging k i = grind (arith, nat_tests)
+
+harmless : (k : DetachKind) (i m : Imsi) → same m i ≡ false → harms m (detach_message k i) ≡ false
+harmless k i m d = grind (arith, nat_tests)
 
 module _ (s : sgsn.State) (v : vlr.State) (ws : List (List ℕ)) (ls : Stamps) (B : (x : ℕ) → reset_to s v.own ≡ Some x → x ≤ s.last) where
-  requests : (i : Imsi) (r : Context) (q : Request) (k : RequestKind) (b : Bool) (c : Class) → sgsn.record_at s i ≡ Some r
+  -- the SGSN moves as this plans
+  abbrev Goes : Plan Unit sgsn.State → Type 0
+  Goes p = Moves s v ws ls B p.after p.sends
+
+  pub requests : (i : Imsi) (r : Context) (q : Request) (k : RequestKind) (b : Bool) (c : Class) → sgsn.record_at s i ≡ Some r
       → let m : Context × Option Outgoing = cond b (context.done_at_once q r, None) (context.asked k q (s.last + 1) r, Some (context.update k c q r)) in
-      SgsnMove s (sgsn.moved s m).after v ws ls (Sends s.own s.last (sgsn.moved s m).sends v.own)
+      Goes (sgsn.moved s m)
   requests i r q k true c e =
-      quiet s v ws ls B (Sends s.own s.last [] v.own) (λ g n. n.0) (sgsn.with_sent s (context.done_at_once q r) []) refl refl (omega arith) i r (context.done_at_once q r) e refl
-      (record { mobile = refl; sure = λ n h. h; asking = λ a n h. absurd (none-some n h) })
+      quiet s v ws ls B (s.last + 0) i r (context.done_at_once q r) [] refl e (record { mobile = refl; sure = λ n h. h; asking = λ a n h. absurd (none-some n h) }) none_sent
   requests i r q k false c e =
       told s v ws ls B (context.asked k q (s.last + 1) r) (context.update k c q r) refl
-      (λ m d. d) (λ h. unsure_unsure q.vlr _ h) (λ n a. asks_so (same_node q.vlr.node v.own) (s.last + 1) n a)
+      (λ m d. d) (λ h. unsure_unsure q.vlr _ h) (λ n a. asks_so (same_node q.vlr.node v.own) (record { vlr = q.vlr; stamp = s.last + 1; ticks = 10; awaited = Update q.new_area }) (Update q.new_area) n a)
 
-  -- the SGSN moves as this plans
-  abbrev Moves : Plan Unit sgsn.State → Type 0
-  Moves p = SgsnMove s p.after v ws ls (Sends s.own s.last p.sends v.own)
-
-  pub requested_so : (i : Imsi) (q : Request) (p : Plan Unit sgsn.State) → requested s i q ≡ Ok p → Moves p
-  requested_so i q p e =
-      let G = request_granted s i q p e in
-      subst Moves G.plan (requests i G.context q G.kind (context.needs_no_frame G.kind q G.context) G.class G.stands)
-
-  module _ (r : Context) where
-    detaches : (k : DetachKind) (o : Option VlrNumber) → Moves (sgsn.moved s (detached_from o k (s.last + 1) r))
-    detaches k None =
-        silent s v ws ls B (Sends s.own s.last [] v.own) (λ g n. n.0) (sgsn.with_sent s (detached_from None k (s.last + 1) r).0 []) refl refl (omega arith) (detached_from None k (s.last + 1) r).0 refl
-        (λ h. absurd (none_unsure _ h)) (λ n a. absurd (none-some n a))
-    detaches kind.ByMobile (Some w) = told s v ws ls B _ _ refl (λ m d. d) (λ h. unsure_unsure w _ h) (λ n a. asks_not (same_node w.node v.own) n a)
-    detaches kind.ByNetwork (Some w) = told s v ws ls B _ _ refl (λ m d. d) (λ h. unsure_unsure w _ h) (λ n a. asks_not (same_node w.node v.own) n a)
-    detaches kind.Imsi (Some w) = told s v ws ls B _ _ refl (λ m d. d) (λ h. unsure_unsure w _ h) (λ n a. asks_not (same_node w.node v.own) n a)
-    detaches kind.ImsiAndGprs (Some w) = told s v ws ls B _ _ refl (λ m d. d) (λ h. unsure_unsure w _ h) (λ n a. asks_not (same_node w.node v.own) n a)
-    detaches kind.SwitchedOff (Some w) = told s v ws ls B _ _ refl (λ m d. d) (λ h. none_unsure _ h) (λ n a. absurd (none-some n a))
-
-  pub detached_so : (i : Imsi) (code : ℕ) (p : Plan Unit sgsn.State) → detached s i code ≡ Ok p → Moves p
-  detached_so i code p e =
-      let G = detach_granted s i code p e in
-      subst Moves G.plan (detaches G.context G.kind (node_in G.context.mark))
+  pub detaches : (i : Imsi) (r : Context) → sgsn.record_at s i ≡ Some r → (k : DetachKind) (o : Option VlrNumber) → Goes (sgsn.moved s (detached_from o k (s.last + 1) r))
+  detaches i r e k None = quiet s v ws ls B (s.last + 0) i r _ [] refl e (quieter_go false verdict.Done r) none_sent
+  detaches i r e k (Some w) = tells (awaited_by k)
+    where
+      tells : (a : Option Awaited) → Goes (sgsn.moved s (waiting_for w a (s.last + 1) r, Some (record { to = w.node; answers = 0; message = detach_message k r.imsi })))
+      tells None = told s v ws ls B (let_go false verdict.Done r) _ (unacknowledging k r.imsi) (harmless k r.imsi) (λ h. none_unsure _ h) (λ n h. absurd (none-some n h))
+      tells (Some a) =
+          told s v ws ls B (waiting_for w (Some a) (s.last + 1) r) _ (unacknowledging k r.imsi) (harmless k r.imsi) (λ h. unsure_unsure w _ h)
+          (λ n h. asks_so (same_node w.node v.own) (record { vlr = w; stamp = s.last + 1; ticks = 8; awaited = a }) a n h)

@@ -19,6 +19,7 @@ pub mod Rows
 pub mod Sendings
 pub mod Served
 pub mod SgsnMoves
+pub mod SgsnPlans
 pub mod Started
 pub mod Taken
 pub mod Ticks

@@ -1,6 +1,8 @@
 -- Moves of an SGSN that leave what it keeps of its VLRs, and those that store one record.
-use Rattle.std.proofs.Common.{◌≡◌, ℕ, ◌+◌, ◌<◌, ◌≤◌, ◌⊎◌, inl, inr, true, false, List, [], ◌∷◌, Some, refl, sym, ap, ◌∙◌, subst, ⊎_elim, arith}
-use Rattle.std.proofs.lemmas.Bool.{true≢false, cases_Bool, cond-true, cond-false}
+use Rattle.std.proofs.Common.{◌≡◌, ℕ, ◌+◌, ◌<◌, ◌≤◌, ◌⊎◌, inl, inr, true, false, not, List, [], ◌∷◌, length, Some, None, Option, refl, sym, ap, ◌∙◌, subst, ⊎_elim, arith}
+use Rattle.std.proofs.lemmas.Bool.{true≢false, not-true, cases_Bool, cond-true, cond-false}
+use Rattle.std.proofs.lemmas.Option.{none-some}
+use Rattle.std.specs.List.{list_all}
 use Rattle.imsi.specs.declared.Imsi.{Imsi}
 use Rattle.frames.specs.declared.frame.Frame.{Frame}
 use Rattle.carrier.specs.Order.{Stamps}
@@ -9,16 +11,18 @@ use Rattle.directory.specs.Lookup.{at, stored}
 use Rattle.directory.proofs.Lookups.{at-stored, at-whose, same_true}
 use Rattle.station.specs.declared.mark.Mark.TheVariants as mark
 use Rattle.station.specs.declared.sending.Outgoing.{Outgoing}
-use Rattle.station.specs.Sends.{frame_of}
+use Rattle.station.specs.Sends.{frame_of, frames_of}
 use Rattle.context.specs.declared.context.Context.{Context}
 use Rattle.context.specs.Answering.{is_above}
 use Rattle.context.specs.Contexts.{whose}
+use Rattle.sgsn.specs.Delivering.{found}
 use Rattle.sgsn.specs.State as sgsn
 use Rattle.vlr.specs.State as vlr
 use Rattle.law.specs.Tables.{mark_in, errand_in}
 use Rattle.law.specs.Sound.{harms, is_acknowledgement, Sure, asked_in, asked, peer_of, reset_in, reset_to, due_in, due_to}
-use Rattle.law.proofs.Premises.{Granted, Sends, SgsnMove}
-use Rattle.law.proofs.Quieter.{Quieter}
+use Rattle.law.proofs.Premises.{Among, Granted, Sends, SgsnMove}
+use Rattle.law.proofs.Quieter.{Quieter, FoundQuieter}
+use Rattle.law.proofs.Sendings.{among_stamps, among_all}
 
 -- the record stored is its mobile's, and any other mobile's is the one before
 abbrev AfterStore : Context → List Context → List Context → Imsi → Type 0
@@ -108,51 +112,77 @@ module _ (s t : sgsn.State) (v : vlr.State) (ws : List (List ℕ)) (ls : Stamps)
 pub own_record : (s : sgsn.State) (i : Imsi) (r : Context) → sgsn.record_at s i ≡ Some r → sgsn.record_at s (whose r) ≡ Some r
 own_record s i r e = subst (λ j. sgsn.record_at s j ≡ Some r) (sym (at-whose whose s.records i r e)) e
 
--- The SGSN s sends nothing, or one frame.
+-- The record of a message's mobile is found by that mobile.
+pub noted_at : (s : sgsn.State) (o : Option Imsi) (r : Context) → found s o ≡ Some r → (i : Imsi) × (sgsn.record_at s i ≡ Some r)
+noted_at s None r e = absurd (none-some r e)
+noted_at s (Some i) r e = (i, e)
+
+-- these frames take no mark away, and acknowledge nothing
+pub record Spares (os : List Outgoing) : Type 0 where
+  pub harmless : (m : Imsi) → list_all (λ o. not (harms m o.message)) os ≡ true
+  pub other : list_all (λ o. not (is_acknowledgement o.message)) os ≡ true
+
+pub none_sent : Spares []
+none_sent = record { harmless = λ m. refl; other = refl }
+
 module _ (s : sgsn.State) (v : vlr.State) (ws : List (List ℕ)) (ls : Stamps) (B : (x : ℕ) → reset_to s v.own ≡ Some x → x ≤ s.last) where
-  -- nothing changes, and nothing is sent
-  pub still : (New : Frame → Type 0) → ((g : Frame) → New g → ⊥) → SgsnMove s s v ws ls New
-  still New none = rows_stay s s v ws ls New B (record {
+  -- the SGSN s moves so, and sends these
+  abbrev pub Moves : sgsn.State → List Outgoing → Type 0
+  Moves t os = SgsnMove s t v ws ls (Sends s.own s.last os v.own)
+
+  -- no VLR becomes surer, nothing more is asked, and what is sent spares every mobile
+  quieter_moves : (n : ℕ) (rs : List Context) (os : List Outgoing) → n ≡ s.last + length os → ((m : Imsi) → FoundQuieter (sgsn.record_at s m) (at whose rs m)) → Spares os → Moves (record s { last = n; records = rs }) os
+  quieter_moves n rs os now seen spare = rows_stay s (record s { last = n; records = rs }) v ws ls (Sends s.own s.last os v.own) B (record {
     own = refl;
     reset = refl;
     due = refl;
-    last = omega arith;
-    stamps = λ g n. absurd (none g n);
-    sure = λ m h. inl h;
-    harmless = λ m h g n. absurd (none g n);
-    asking = λ m r a. inl a;
-    behind = λ m r a g n. absurd (none g n);
-    other = λ g n. absurd (none g n);
+    last = omega (arith, now);
+    stamps = λ g x. let h = among_stamps s.own s.last os g x.0 in (h.0, omega (arith, h.1, now));
+    sure = λ m h. inl ((seen m).sure _ h);
+    harmless = λ m h g x. spared m g x.0;
+    asking = λ m r a. inl ((seen m).asking v.own r a);
+    behind = λ m r a g x l. spared m g x.0;
+    other = λ g x. not-true _ (among_all (λ k. not (is_acknowledgement k)) s.own s.last os g spare.other x.0);
   })
+    where
+      spared : (m : Imsi) (g : Frame) → Among g (frames_of s.own s.last os) → harms m g.message ≡ false
+      spared m g x = not-true _ (among_all (λ k. not (harms m k)) s.own s.last os g (spare.harmless m) x)
 
-  -- a record is stored, and nothing is sent
-  pub silent : (New : Frame → Type 0) → ((g : Frame) → New g → ⊥) → (t : sgsn.State) → t.own ≡ s.own → t.peers ≡ s.peers → s.last ≤ t.last → (r : Context) → t.records ≡ stored whose r s.records
-      → (r.mark ≡ mark.Confirmed (record { node = v.own }) → Sure s v.own (whose r) ⊎ Granted s t v ws ls New (whose r))
-      → ((n : ℕ) → asked_in v.own r.errand ≡ Some n → asked s v.own (whose r) ≡ Some n)
-      → SgsnMove s t v ws ls New
-  silent New none t own peers last r records sure asking = stored_moves s t v ws ls New r B (record {
-    own = own;
-    peers = peers;
-    records = records;
-    last = last;
-    sure = sure;
-    asking = λ n a. inl (asking n a);
-    next = λ g n. absurd (none g n);
-    other = λ g n. absurd (none g n);
-    about = λ g n. absurd (none g n);
-    unsure = λ g n. absurd (none g n);
-    open_now = λ g n. absurd (none g n);
-  })
+  -- nothing changes, and nothing is sent
+  pub still : Moves s []
+  still = quieter_moves s.last s.records [] (omega arith) (λ m. record { sure = λ n h. h; asking = λ a n h. h }) none_sent
 
-  -- a record that was found is stored quieter, and nothing is sent
-  pub quiet : (New : Frame → Type 0) → ((g : Frame) → New g → ⊥) → (t : sgsn.State) → t.own ≡ s.own → t.peers ≡ s.peers → s.last ≤ t.last
-      → (i : Imsi) (r r2 : Context) → sgsn.record_at s i ≡ Some r → t.records ≡ stored whose r2 s.records → Quieter r r2
-      → SgsnMove s t v ws ls New
-  quiet New none t own peers last i r r2 e records q =
+  -- a record is stored by which no VLR is surer, and nothing more is asked
+  pub stored_quieter : (n : ℕ) (r : Context) (os : List Outgoing) → n ≡ s.last + length os → FoundQuieter (sgsn.record_at s (whose r)) (Some r) → Spares os → Moves (record s { last = n; records = stored whose r s.records }) os
+  stored_quieter n r os now q spare = quieter_moves n (stored whose r s.records) os now
+      (λ m. ⊎_elim
+      (λ c. subst (λ i. FoundQuieter (sgsn.record_at s i) (at whose (stored whose r s.records) i)) (sym c.0) (subst (FoundQuieter (sgsn.record_at s (whose r))) (sym (sym (ap (at whose (stored whose r s.records)) c.0) ∙ c.1)) q))
+      (λ c. subst (FoundQuieter (sgsn.record_at s m)) (sym c.1) (record { sure = λ n h. h; asking = λ a n h. h }))
+      (after_store r s.records m))
+      spare
+
+  -- a record that was found is stored quieter
+  pub quiet : (n : ℕ) (i : Imsi) (r r2 : Context) (os : List Outgoing) → n ≡ s.last + length os → sgsn.record_at s i ≡ Some r → Quieter r r2 → Spares os → Moves (record s { last = n; records = stored whose r2 s.records }) os
+  quiet n i r r2 os now e q spare =
       let its : sgsn.record_at s (whose r2) ≡ Some r = ap (sgsn.record_at s) q.mobile ∙ own_record s i r e in
-      silent New none t own peers last r2 records
-      (λ h. inl (ap mark_in its ∙ q.sure _ h))
-      (λ n a. ap (λ o. asked_in v.own (errand_in o)) its ∙ q.asking v.own n a)
+      stored_quieter n r2 os now (subst (λ o. FoundQuieter o (Some r2)) (sym its) (record { sure = q.sure; asking = q.asking })) spare
+
+  -- a record is stored that asks nothing, and nothing is sent
+  pub silent : (r : Context) → (r.mark ≡ mark.Confirmed (record { node = v.own }) → Sure s v.own (whose r) ⊎ Granted s (sgsn.with_context s r) v ws ls (Sends s.own s.last [] v.own) (whose r))
+      → ((n : ℕ) → asked_in v.own r.errand ≡ Some n → ⊥) → Moves (sgsn.with_context s r) []
+  silent r sure asking = stored_moves s (sgsn.with_context s r) v ws ls (Sends s.own s.last [] v.own) r B (record {
+    own = refl;
+    peers = refl;
+    records = refl;
+    last = omega arith;
+    sure = sure;
+    asking = λ n a. absurd (asking n a);
+    next = λ g n. absurd n.0;
+    other = λ g n. absurd n.0;
+    about = λ g n. absurd n.0;
+    unsure = λ g n. absurd n.0;
+    open_now = λ g n. absurd n.0;
+  })
 
   -- a record is stored of which no VLR is sure, and a frame about its mobile is sent
   pub told : (r : Context) (x : Outgoing)
@@ -160,7 +190,7 @@ module _ (s : sgsn.State) (v : vlr.State) (ws : List (List ℕ)) (ls : Stamps) (
       → ((m : Imsi) → same m (whose r) ≡ false → harms m x.message ≡ false)
       → (r.mark ≡ mark.Confirmed (record { node = v.own }) → ⊥)
       → ((n : ℕ) → asked_in v.own r.errand ≡ Some n → n ≡ s.last + 1)
-      → SgsnMove s (sgsn.with_sent s r (x ∷ [])) v ws ls (Sends s.own s.last (x ∷ []) v.own)
+      → Moves (sgsn.with_sent s r (x ∷ [])) (x ∷ [])
   told r x other about unsure asking = stored_moves s (sgsn.with_sent s r (x ∷ [])) v ws ls (Sends s.own s.last (x ∷ []) v.own) r B (record {
     own = refl;
     peers = refl;

@@ -1,5 +1,5 @@
 -- What moves of the SGSN do to what is owed.
-use Rattle.std.proofs.Common.{◌≡◌, ℕ, ◌+◌, ◌*◌, ◌≤◌, Bool, true, false, cond, ltb, List, [], ◌∷◌, map, length, Some, None, Option, refl, sym, ap, ◌∙◌, subst, arith}
+use Rattle.std.proofs.Common.{◌≡◌, ℕ, ◌+◌, ◌≤◌, Bool, true, false, cond, ltb, List, [], ◌∷◌, map, length, Some, None, Option, refl, sym, ap, ◌∙◌, subst, arith}
 use Rattle.std.specs.List.{count_by}
 use Rattle.std.specs.Option.{option_map}
 use Rattle.std.proofs.lemmas.Bool.Decides.{nat_tests}
@@ -25,22 +25,20 @@ use Rattle.context.specs.Detaching as detach
 use Rattle.context.specs.Errands.{owes}
 use Rattle.context.specs.Paging as page
 use Rattle.context.specs.Requesting as request
-use Rattle.context.specs.Ticking.{repeats_of, ticked_errand, context_ticked, context_sends}
+use Rattle.context.specs.Ticking.{ticks_left, ticked_errand, context_ticked, context_sends}
 use Rattle.sgsn.specs.declared.peer.Peer.{Peer}
 use Rattle.sgsn.specs.Peers.{doubted_by, doubted_by_all}
 use Rattle.sgsn.specs.Recovering.{records_ticked, ticked}
-use Rattle.sgsn.specs.Settling.{settled_errand}
 use Rattle.sgsn.specs.State as sgsn
+use Rattle.sgsn.proofs.Keeps.{doubtful_whose}
+use Rattle.sgsn.proofs.Moves.{settled}
+use Rattle.sgsn.proofs.Ticks.{whose_ticked}
 use Rattle.law.specs.Laws.{owing}
 use Rattle.law.specs.Tables.{errand_in, errand_of}
 
--- how many ticks an open request or detach can still take
-abbrev pub left_of : Open → ℕ
-left_of o = o.ticks + 8 * repeats_of o.awaited
-
 -- after so many ticks it is still open, and ends before the 32nd
 abbrev pub InTime : ℕ → Open → Type 0
-InTime t o = (t + left_of o ≤ 32) × (1 ≤ o.ticks)
+InTime t o = (t + ticks_left o ≤ 32) × (1 ≤ o.ticks)
 
 -- What a record owes stays, and what is open then was so before.
 abbrev pub Stays : Errand → Errand → Type 0
@@ -55,21 +53,12 @@ answered_open v n reset k r o e = grind (arith, nat_tests)
 pub answered_stays : (v : VlrNumber) (n : ℕ) (reset : Option ℕ) (k : Message) (r : Context) → Stays r.errand (answered v n reset k r).errand
 answered_stays v n reset k r = (answered_owes v n reset k r, answered_open v n reset k r)
 
-pub answered_whose : (v : VlrNumber) (n : ℕ) (reset : Option ℕ) (k : Message) (r : Context) → whose (answered v n reset k r) ≡ whose r
-answered_whose v n reset k r = grind (arith, nat_tests)
-
 -- neither a page nor a doubt changes what is owed
 pub paged_errand : (v : VlrNumber) (n : ℕ) (r : Context) → (page.paged v n r).0.errand ≡ r.errand
 paged_errand v n r = grind (arith, nat_tests)
 
-pub paged_whose : (v : VlrNumber) (n : ℕ) (r : Context) → whose (page.paged v n r).0 ≡ whose r
-paged_whose v n r = grind (arith, nat_tests)
-
 pub doubtful_errand : (v : VlrNumber) (r : Context) → (doubtful_at v r).errand ≡ r.errand
 doubtful_errand v r = grind (arith, nat_tests)
-
-pub doubtful_whose : (v : VlrNumber) (r : Context) → whose (doubtful_at v r) ≡ whose r
-doubtful_whose v r = grind (arith, nat_tests)
 
 -- a request and a detach owe a reply, and are in time
 pub requested_owes : (k : RequestKind) (c : Class) (q : Request) (n : ℕ) (r : Context) → owes (request.requested k c q n r).0.errand ≡ true
@@ -78,29 +67,17 @@ requested_owes k c q n r = grind (arith, nat_tests)
 pub requested_left : (k : RequestKind) (c : Class) (q : Request) (n : ℕ) (r : Context) (o : Open) → (request.requested k c q n r).0.errand ≡ errand.Open o → InTime 0 o
 requested_left k c q n r o e = grind (arith, nat_tests)
 
-pub requested_whose : (k : RequestKind) (c : Class) (q : Request) (n : ℕ) (r : Context) → whose (request.requested k c q n r).0 ≡ whose r
-requested_whose k c q n r = grind (arith, nat_tests)
-
 pub detached_owes : (k : DetachKind) (n : ℕ) (r : Context) → owes (detach.detached k n r).0.errand ≡ true
 detached_owes k n r = grind (arith, nat_tests)
 
 pub detached_left : (k : DetachKind) (n : ℕ) (r : Context) (o : Open) → (detach.detached k n r).0.errand ≡ errand.Open o → InTime 0 o
 detached_left k n r o e = grind (arith, nat_tests)
 
-pub detached_whose : (k : DetachKind) (n : ℕ) (r : Context) → whose (detach.detached k n r).0 ≡ whose r
-detached_whose k n r = grind (arith, nat_tests)
-
 -- nothing is owed once it is settled
-pub settled_owes : (r : Context) → owes (settled_errand r.errand r).errand ≡ false
+pub settled_owes : (r : Context) → owes (settled r).errand ≡ false
 settled_owes r = grind (arith, nat_tests)
 
-pub settled_whose : (r : Context) → whose (settled_errand r.errand r) ≡ whose r
-settled_whose r = grind (arith, nat_tests)
-
 -- a tick leaves what is owed, and what is in time
-ticked_whose : (n : ℕ) (r : Context) → whose (context_ticked n r) ≡ whose r
-ticked_whose n r = grind (arith, nat_tests)
-
 ticked_owes : (n : ℕ) (r : Context) → owes (context_ticked n r).errand ≡ owes r.errand
 ticked_owes n r = grind (arith, nat_tests)
 
@@ -150,7 +127,7 @@ ticked-at last (r ∷ rs) m =
     let next = last + length (context_sends r) in
     let x = context_ticked last r in
     subst (λ i. (n : ℕ) × (cond (same m i) (Some x) (cond (ltb (rank_of m) (rank_of i)) None (at whose (records_ticked next rs) m)) ≡ option_map (context_ticked n) (cond (same m (whose r)) (Some r) (cond (ltb (rank_of m) (rank_of (whose r))) None (at whose rs m)))))
-    (sym (ticked_whose last r)) (by_place (same m (whose r)) (ltb (rank_of m) (rank_of (whose r))) (ticked-at next rs m))
+    (sym (whose_ticked last r)) (by_place (same m (whose r)) (ltb (rank_of m) (rank_of (whose r))) (ticked-at next rs m))
   where
     by_place : (a b : Bool) → (n : ℕ) × (at whose (records_ticked (last + length (context_sends r)) rs) m ≡ option_map (context_ticked n) (at whose rs m)) → (n : ℕ) × (cond a (Some (context_ticked last r)) (cond b None (at whose (records_ticked (last + length (context_sends r)) rs) m)) ≡ option_map (context_ticked n) (cond a (Some r) (cond b None (at whose rs m))))
     by_place true b rest = (last, refl)

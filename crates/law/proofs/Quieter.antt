@@ -1,6 +1,7 @@
 -- Records that are changed so that no VLR is surer, and that nothing more is asked.
 use Rattle.std.proofs.Common.{◌≡◌, ℕ, Bool, true, false, cond, ltb, List, [], ◌∷◌, map, Some, None, Option, refl, sym, ap, ◌∙◌, subst, arith}
 use Rattle.std.proofs.lemmas.Bool.{true≢false, cond_both}
+use Rattle.std.proofs.lemmas.Option.{none-some}
 use Rattle.imsi.specs.declared.Imsi.{Imsi}
 use Rattle.elements.specs.declared.node.NodeNumber.{NodeNumber}
 use Rattle.elements.specs.declared.node.VlrNumber.{VlrNumber}
@@ -11,6 +12,8 @@ use Rattle.station.specs.declared.mark.Mark.{Mark}
 use Rattle.station.specs.declared.mark.Mark.TheVariants as mark
 use Rattle.station.specs.Marks.{doubted}
 use Rattle.context.specs.declared.context.Context.{Context}
+use Rattle.context.specs.declared.errand.Verdict.{Verdict}
+use Rattle.context.specs.Answering.{let_go}
 use Rattle.context.specs.Contexts.{whose, doubtful, doubtful_at, sure_at}
 use Rattle.law.specs.Tables.{mark_in, errand_in}
 use Rattle.law.specs.Sound.{asked_in}
@@ -41,6 +44,10 @@ quieter_doubtful r = record { mobile = refl; sure = λ n h. absurd (doubted_unsu
 
 pub quieter_doubtful_at : (w : VlrNumber) (r : Context) → Quieter r (doubtful_at w r)
 quieter_doubtful_at w r = cond_both (sure_at w r.mark) (doubtful r) r (Quieter r) (λ e. quieter_doubtful r) (λ e. same_record r)
+
+-- no VLR serves the mobile any more, and it has its verdict
+pub quieter_go : (b : Bool) (w : Verdict) (r : Context) → Quieter r (let_go b w r)
+quieter_go b w r = record { mobile = refl; sure = λ n h. absurd (none_unsure n h); asking = λ a n h. absurd (none-some n h) }
 
 -- all records, before and after
 abbrev pub AllQuieter : List Context → List Context → Type 0

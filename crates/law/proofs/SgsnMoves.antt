@@ -1,83 +1,31 @@
--- Each move of an SGSN shows what it must.
-use Rattle.std.proofs.Common.{◌≡◌, ℕ, ◌≤◌, ◌⊎◌, true, false, List, map, inl, Some, None, Ok, Err, Option, Result, refl, sym, ap, ◌∙◌, subst, ⊎_elim, arith}
+-- A loss, a tick and a take of an SGSN show each VLR what they must.
+use Rattle.std.proofs.Common.{◌≡◌, ℕ, ◌≤◌, ◌⊎◌, true, false, List, map, inl, Some, refl, sym, ap, ◌∙◌, ⊎_elim, arith}
 use Rattle.std.proofs.lemmas.Bool.{true≢false, cases_Bool}
 use Rattle.std.proofs.lemmas.List.{length-map, length-append}
-use Rattle.std.proofs.lemmas.Option.{none-some}
 use Rattle.imsi.specs.declared.Imsi.{Imsi}
-use Rattle.station.specs.declared.denial.Denial.{Denial}
-use Rattle.context.specs.declared.context.Context.{Context}
-use Rattle.context.specs.declared.errand.Errand.{Errand}
-use Rattle.context.specs.declared.errand.Errand.TheVariants as errand
-use Rattle.context.specs.declared.errand.Verdict.{Verdict}
-use Rattle.station.specs.Calls.{Plan}
 use Rattle.station.specs.Sends.{frames_of}
 use Rattle.station.specs.Ticks.{reset_to}
 use Rattle.context.specs.Answering.{is_above}
-use Rattle.context.specs.Contexts.{new_context, attached_now, idle, doubtful}
-use Rattle.context.specs.Ticking.{expired}
+use Rattle.context.specs.Contexts.{doubtful}
 use Rattle.frames.specs.declared.frame.Frame.{Frame}
 use Rattle.carrier.specs.Order.{Stamps}
-use Rattle.context.specs.declared.kind.Request.{Request}
 use Rattle.sgsn.specs.State as sgsn
-use Rattle.sgsn.specs.Enrolling as enrol
 use Rattle.sgsn.specs.declared.peer.Peer.{Peer}
 use Rattle.sgsn.specs.Making.{all_different}
 use Rattle.sgsn.specs.Peers.{peer_from, peers_sends}
-use Rattle.sgsn.specs.Requesting.{requested}
-use Rattle.sgsn.specs.Detaching.{detached}
-use Rattle.sgsn.specs.Settling.{settling, after_settling, settled_as, settled_errand}
-use Rattle.sgsn.specs.Delivering.{moved_by_frame, sends_by_frame}
+use Rattle.sgsn.specs.Delivering.{frame_plan}
 use Rattle.sgsn.specs.Recovering.{lost, resets, records_ticked, records_sends, last_between, ticked, tick_sends}
 use Rattle.vlr.specs.State as vlr
 use Rattle.law.specs.Sound.{Pair, Sure, harms, is_acknowledgement, asked, peer_of, reset_in, due_in}
 use Rattle.law.proofs.Premises.{Among, Fit, Given, Sends, SgsnMove}
-use Rattle.sgsn.proofs.Granted.{enrol_granted, attach_granted}
 use Rattle.law.proofs.Losses.{lost_above, lost_before, lost_due, lost_none, lost_other}
-use Rattle.law.proofs.Quieter.{none_unsure, same_record, quieter_doubtful, quieter_map, FoundQuieter, found_quieter, unsure_map, found_unsure, doubtful_nowhere}
+use Rattle.law.proofs.Quieter.{quieter_doubtful, quieter_map, FoundQuieter, found_quieter, unsure_map, found_unsure, doubtful_nowhere}
 use Rattle.law.proofs.Sendings.{among_stamps, among_either}
-use Rattle.law.proofs.OneRecord.{still, silent, quiet}
-use Rattle.law.proofs.Asks.{requested_so, detached_so}
 use Rattle.law.proofs.RecordTicks.{quieter_all_ticked, records_other, Free, records_free}
 use Rattle.law.proofs.Taken.{taken_by_frame}
 use Rattle.law.proofs.Ticks.{ticked_above, ticked_repeat, ticked_before, ticked_due, doubted_there, Says, rows_say}
 
 module _ (s : sgsn.State) (v : vlr.State) (ws : List (List ℕ)) (ls : Stamps) (F : Fit s) (P : Pair s v ws ls) where
-  pub enrolled_moves : (i : Imsi) (code : ℕ) (p : Plan Unit sgsn.State) → enrol.enrolled s i code ≡ Ok p → SgsnMove s p.after v ws ls (λ g. ⊥)
-  enrolled_moves i code p e =
-      let G = enrol_granted s i code p e in
-      subst (λ u. SgsnMove s u.after v ws ls (λ g. ⊥)) G.plan
-      (silent s v ws ls P.reset_before (λ g. ⊥) (λ g n. n) (sgsn.with_context s (new_context i G.class)) refl refl (omega arith) (new_context i G.class) refl
-      (λ h. absurd (none_unsure _ h)) (λ n a. absurd (none-some n a)))
-
-  pub attached_moves : (i : Imsi) (p : Plan Unit sgsn.State) → enrol.attached s i ≡ Ok p → SgsnMove s p.after v ws ls (λ g. ⊥)
-  attached_moves i p e =
-      let G = attach_granted s i p e in
-      let r = G.context in
-      subst (λ u. SgsnMove s u.after v ws ls (λ g. ⊥)) G.plan
-      (quiet s v ws ls P.reset_before (λ g. ⊥) (λ g n. n) (sgsn.with_context s (attached_now r)) refl refl (omega arith) i r (attached_now r) G.stands refl (record { mobile = refl; sure = λ n h. h; asking = λ a n h. h }))
-
-  pub requested_moves : (i : Imsi) (q : Request) (p : Plan Unit sgsn.State) → requested s i q ≡ Ok p → SgsnMove s p.after v ws ls (Sends s.own s.last p.sends v.own)
-  requested_moves i q p e = requested_so s v ws ls P.reset_before i q p e
-
-  pub detached_moves : (i : Imsi) (code : ℕ) (p : Plan Unit sgsn.State) → detached s i code ≡ Ok p → SgsnMove s p.after v ws ls (Sends s.own s.last p.sends v.own)
-  detached_moves i code p e = detached_so s v ws ls P.reset_before i code p e
-
-  pub settled_moves : (i : Imsi) → SgsnMove s (after_settling s i (settling s i)) v ws ls (λ g. ⊥)
-  settled_moves i = settled_so (settling s i)
-    where
-      settles : (r : Context) (e : Errand) → r.errand ≡ e → sgsn.record_at s i ≡ Some r → SgsnMove s (sgsn.with_context s (settled_errand e r)) v ws ls (λ g. ⊥)
-      settles r errand.Idle q f = quiet s v ws ls P.reset_before (λ g. ⊥) (λ g n. n) (sgsn.with_context s r) refl refl (omega arith) i r r f refl (same_record r)
-      settles r (errand.Open o) q f = quiet s v ws ls P.reset_before (λ g. ⊥) (λ g n. n) (sgsn.with_context s (idle (expired o r))) refl refl (omega arith) i r (idle (expired o r)) f refl (record { mobile = refl; sure = λ n h. h; asking = λ a n h. absurd (none-some n h) })
-      settles r (errand.Ended w) q f = quiet s v ws ls P.reset_before (λ g. ⊥) (λ g n. n) (sgsn.with_context s (idle r)) refl refl (omega arith) i r (idle r) f refl (record { mobile = refl; sure = λ n h. h; asking = λ a n h. absurd (none-some n h) })
-
-      settled_as_so : (o : Option Context) → sgsn.record_at s i ≡ o → SgsnMove s (settled_as s o) v ws ls (λ g. ⊥)
-      settled_as_so None f = still s v ws ls P.reset_before (λ g. ⊥) (λ g n. n)
-      settled_as_so (Some r) f = settles r r.errand refl f
-
-      settled_so : (x : Result Verdict Denial) → SgsnMove s (after_settling s i x) v ws ls (λ g. ⊥)
-      settled_so (Ok w) = settled_as_so (sgsn.record_at s i) refl
-      settled_so (Err w) = still s v ws ls P.reset_before (λ g. ⊥) (λ g n. n)
-
   pub lost_moves : SgsnMove s (lost s) v ws ls (Sends s.own s.last (resets s) v.own)
   lost_moves = record {
     own = refl;
@@ -155,5 +103,5 @@ module _ (s : sgsn.State) (v : vlr.State) (ws : List (List ℕ)) (ls : Stamps) (
       spared m g never = ⊎_elim (λ t. absurd (never t)) (λ f. f) (cases_Bool (harms m g.message))
 
   -- after a take for the SGSN
-  pub taken_moves : (f : Frame) (ws1 : List (List ℕ)) (ls1 : Stamps) → Given s.own f ws ls ws1 ls1 → SgsnMove s (moved_by_frame s f) v ws1 ls1 (Sends s.own s.last (sends_by_frame s f) v.own)
+  pub taken_moves : (f : Frame) (ws1 : List (List ℕ)) (ls1 : Stamps) → Given s.own f ws ls ws1 ls1 → SgsnMove s (frame_plan s f).after v ws1 ls1 (Sends s.own s.last (frame_plan s f).sends v.own)
   taken_moves f ws1 ls1 G = taken_by_frame s v ws ls F P f ws1 ls1 G (peer_from f s.peers) refl

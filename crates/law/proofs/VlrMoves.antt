@@ -1,5 +1,5 @@
 -- Each move of a VLR shows what it must.
-use Rattle.std.proofs.Common.{◌≡◌, ℕ, ◌+◌, ◌⊎◌, inl, inr, ⊎_elim, Bool, true, false, not, cond, ◌&&◌, List, [], ◌∷◌, ◌++◌, length, is_some, Some, None, Option, refl, sym, ap, ◌∙◌, subst, arith}
+use Rattle.std.proofs.Common.{◌≡◌, ℕ, ◌+◌, ◌<◌, ◌≤◌, ◌==◌, ◌⊎◌, inl, inr, ⊎_elim, Bool, true, false, not, cond, ◌&&◌, List, [], ◌∷◌, ◌++◌, length, is_some, Some, None, Option, refl, sym, ap, ◌∙◌, subst, arith}
 use Rattle.std.specs.List.{list_all}
 use Rattle.std.proofs.lemmas.Bool.{true≢false, false≢true, not-true, and_parts, cases_Bool, cond-true, cond-false, eqb-true}
 use Rattle.std.proofs.lemmas.Bool.Decides.{nat_tests}
@@ -7,8 +7,6 @@ use Rattle.std.proofs.lemmas.Option.{none-some, same_Some}
 use Rattle.imsi.specs.declared.Imsi.{Imsi}
 use Rattle.elements.specs.declared.area.LocationArea.{LocationArea}
 use Rattle.elements.specs.declared.code.ImsiDetachType.{ImsiDetachType}
-use Rattle.elements.specs.declared.code.UpdateType.{UpdateType}
-use Rattle.elements.specs.declared.code.Class.{Class}
 use Rattle.elements.specs.declared.node.NodeNumber.{NodeNumber}
 use Rattle.elements.specs.declared.node.SgsnNumber.{SgsnNumber}
 use Rattle.elements.specs.Nodes.{same_node}
@@ -20,6 +18,9 @@ use Rattle.carrier.specs.Order.{Stamps}
 use Rattle.station.specs.declared.mark.Mark.TheVariants as mark
 use Rattle.station.specs.declared.row.Recovery.{Recovery}
 use Rattle.station.specs.declared.row.Row.{Row}
+use Rattle.station.specs.declared.receiving.Delivery.{Delivery}
+use Rattle.station.specs.declared.sending.Outgoing.{Outgoing}
+use Rattle.station.specs.Calls.{Plan, quietly}
 use Rattle.station.specs.Receiving.{is_from, names_sender}
 use Rattle.station.specs.Rows.{repeat_now, due_now, due_ticked, reset_ticked, repeated, runs_out, nearer, anew, is_last}
 use Rattle.station.specs.Sends.{frames_of}
@@ -27,17 +28,19 @@ use Rattle.station.specs.Ticks as tick
 use Rattle.sgsn.specs.State as sgsn
 use Rattle.vlr.specs.State as vlr
 use Rattle.vlr.specs.declared.record.Record.{Record}
-use Rattle.vlr.specs.Moves.{answer_to, cause_for, update_answer, detach_answer}
-use Rattle.vlr.specs.Delivering.{noted, answering, answers_to, row_after, taken, moved_by_frame, sends_by_frame}
-use Rattle.vlr.specs.Enrolling.{enrolled}
+use Rattle.vlr.specs.Moves.{update_move, detach_answer}
+use Rattle.vlr.specs.Delivering as deliver
+use Rattle.vlr.specs.Delivering.{noted, taken_by, frame_plan}
+use Rattle.vlr.specs.Enrolling.{enrolled, with_enrolled}
 use Rattle.vlr.specs.Paging.{paged, pages}
 use Rattle.vlr.specs.Recovering.{lost, resets, ticked, tick_sends}
 use Rattle.vlr.specs.Laws.{record_at, by_message}
+use Rattle.vlr.proofs.Moved.{cause_for, update_answer, answer_to, taken_sends, taken_last, taken_own, taken_sgsn}
 use Rattle.vlr.proofs.ByMobile.{enrolled-at, taken-at}
-use Rattle.directory.specs.Lookup.{at, stored}
+use Rattle.directory.specs.Lookup.{at}
 use Rattle.directory.specs.Order.{same}
 use Rattle.directory.proofs.Lookups.{same_true}
-use Rattle.law.specs.Tables.{mark_of}
+use Rattle.law.specs.Tables.{mark_of, marked_by}
 use Rattle.law.specs.Sound.{Live, harms, is_acknowledgement, accepts, Pair}
 use Rattle.law.proofs.Premises.{Among, Given, Sends, Ended, Harmed, VlrMove, VlrRestart}
 use Rattle.law.proofs.Sendings.{among_stamps, among_all, given_later, given_live}
@@ -49,28 +52,27 @@ enrolled_mark i c b o = grind (arith, nat_tests)
 unharmed : (n : SgsnNumber) (k : Message) (m : Imsi) (o : Option Record) → harms m k ≡ false → mark_of (by_message n k m o) ≡ mark_of o
 unharmed n k m o h = grind (arith, nat_tests)
 
--- what is sent as an answer
-answer_frame : (own : NodeNumber) (last : ℕ) (n : NodeNumber) (stamp : ℕ) (o : Option Message) (g : Frame) → Among g (frames_of own last (answering n stamp o)) → (o ≡ Some g.message) × (g.answers ≡ stamp)
-answer_frame own last n stamp None g x = absurd x
-answer_frame own last n stamp (Some k) g (inl e) = (ap (λ x. Some x.message) (sym e), ap (λ x. x.answers) e)
-answer_frame own last n stamp (Some k) g (inr x) = absurd x
+-- what goes out answers the frame
+answer_frame : (v : vlr.State) (f : Frame) (o : Option Message) (g : Frame) → Among g (frames_of v.own v.last (deliver.answer_to v f o)) → (o ≡ Some g.message) × (g.answers ≡ f.stamp)
+answer_frame v f None g x = absurd x
+answer_frame v f (Some k) g (inl e) = (ap (λ x. Some x.message) (sym e), ap (λ x. x.answers) e)
+answer_frame v f (Some k) g (inr x) = absurd x
 
--- an update that is accepted marks its mobile
-update_same : (i m : Imsi) (w : LocationArea) (n : ℕ) → accepts m (update_answer i w n) ≡ true → same m i ≡ true
-update_same i m w n h = grind (arith, nat_tests)
+answers : (v : vlr.State) (f : Frame) (k : Message) (g : Frame) → Among g (frames_of v.own v.last (taken_by v f k).sends) → (answer_to (noted v k) k ≡ Some g.message) × (g.answers ≡ f.stamp)
+answers v f k g x = answer_frame v f (answer_to (noted v k) k) g (subst (λ os. Among g (frames_of v.own v.last os)) (taken_sends v f k) x)
 
-update_marks : (n : SgsnNumber) (i m : Imsi) (u : UpdateType) (w before : LocationArea) (c : Class) (o : Option Record) → accepts m (update_answer i w (cause_for o)) ≡ true → mark_of (by_message n (LuRequest i u before w c) m o) ≡ mark.Confirmed n
-update_marks n i m u w before c o h = grind (arith, nat_tests)
+-- a mobile that is accepted is marked
+update_sure : (n : SgsnNumber) (i m : Imsi) (w : LocationArea) (o : Option Record) → accepts m (update_answer i w (cause_for o)) ≡ true → (same m i ≡ true) × (mark_of (update_move n i w o).0 ≡ mark.Confirmed n)
+update_sure n i m w o h = grind (arith, nat_tests)
 
 unaccepting : (i : Imsi) (t : ImsiDetachType) (m : Imsi) (a : Message) → detach_answer i t ≡ Some a → accepts m a ≡ false
 unaccepting i t m a e = grind (arith, nat_tests)
 
--- a mobile that is accepted is marked
 accepted_sure : (v : vlr.State) (k : Message) (m : Imsi) (a : Message) → answer_to (noted v k) k ≡ Some a → accepts m a ≡ true → mark_of (by_message v.sgsn k m (record_at v m)) ≡ mark.Confirmed v.sgsn
 accepted_sure v (LuRequest i u o w c) m a e h =
-    let accepting : accepts m (update_answer i w (cause_for (record_at v i))) ≡ true = ap (accepts m) (same_Some _ _ e) ∙ h in
-    let its = same_true m i (update_same i m w (cause_for (record_at v i)) accepting) in
-    update_marks v.sgsn i m u w o c (record_at v m) (subst (λ x. accepts m (update_answer i w (cause_for (record_at v x))) ≡ true) (sym its) accepting)
+    let sure = update_sure v.sgsn i m w (record_at v i) (ap (accepts m) (same_Some _ _ e) ∙ h) in
+    ap mark_of (cond-true (same m i) (update_move v.sgsn i w (record_at v m)).0 (record_at v m) sure.0)
+    ∙ ap (λ n. mark_of (update_move v.sgsn i w (record_at v n)).0) (same_true m i sure.0) ∙ sure.1
 accepted_sure v (GprsDetachIndication i t) m a e h = absurd (true≢false (sym h ∙ ap (accepts m) (sym (same_Some _ _ e))))
 accepted_sure v (ImsiDetachIndication i t) m a e h = absurd (true≢false (sym h ∙ unaccepting i t m a e))
 accepted_sure v k m a e h = absurd (none-some a e)
@@ -80,13 +82,15 @@ last_is None n h = absurd (false≢true h)
 last_is (Some m) n h = ap Some (sym (eqb-true n m h))
 
 -- a message leaves the stamp of the last RESET, and only its acknowledgement ends recovery
-row_kept : (r : Row) (n a : ℕ) (k : Message) → ((row_after r n a k).reset ≡ r.reset) × ((row_after r n a k).recovery ≡ None → (r.recovery ≡ None) ⊎ ((is_acknowledgement k ≡ true) × (r.reset ≡ Some a)))
-row_kept r n a (ResetAcknowledge e) = ended (is_some r.recovery && is_last r.reset a) refl
+row_kept : (v : vlr.State) (f : Frame) (k : Message) → let r : Row = (taken_by v f k).after.row in
+    (r.reset ≡ v.row.reset) × (r.recovery ≡ None → (v.row.recovery ≡ None) ⊎ ((is_acknowledgement k ≡ true) × (v.row.reset ≡ Some f.answers)))
+row_kept v f (ResetAcknowledge e) = by_reset (is_some v.row.recovery && is_last v.row.reset f.answers) refl
   where
-    ended : (b : Bool) → (is_some r.recovery && is_last r.reset a) ≡ b → let x : Row = cond b (record { recovery = None; reset = r.reset; due = r.due }) r in (x.reset ≡ r.reset) × (x.recovery ≡ None → (r.recovery ≡ None) ⊎ ((true ≡ true) × (r.reset ≡ Some a)))
-    ended true q = (refl, λ e. inr (refl, last_is r.reset a (and_parts (is_some r.recovery) (is_last r.reset a) q).1))
-    ended false q = (refl, λ e. inl e)
-row_kept r n a k = (refl, λ e. inl e)
+    by_reset : (b : Bool) → (is_some v.row.recovery && is_last v.row.reset f.answers) ≡ b
+        → let r : Row = cond b (record { recovery = None; reset = v.row.reset; due = v.row.due }) v.row in (r.reset ≡ v.row.reset) × (r.recovery ≡ None → (v.row.recovery ≡ None) ⊎ ((true ≡ true) × (v.row.reset ≡ Some f.answers)))
+    by_reset true q = (refl, λ e. inr (refl, last_is v.row.reset f.answers (and_parts (is_some v.row.recovery) (is_last v.row.reset f.answers) q).1))
+    by_reset false q = (refl, λ e. inl e)
+row_kept v f k = (refl, λ e. inl e)
 
 -- a tick accepts no mobile
 tick_accepts : (own peer : NodeNumber) (m : Imsi) (o : Option ℕ) (b : Bool) → list_all (λ x. not (accepts m x.message)) (tick.acknowledging own peer o ++ cond b (tick.reset_to own peer ∷ []) []) ≡ true
@@ -103,91 +107,83 @@ not_over : (o : Option Recovery) → runs_out o ≡ true → anew o ≡ None →
 not_over None h e = false≢true h
 not_over (Some r) h e = none-some _ (sym e)
 
-module _ (s : sgsn.State) (v : vlr.State) (ws : List (List ℕ)) (ls : Stamps) (P : Pair s v ws ls) where
-  pub enrolled_moves : (i : Imsi) (cause : ℕ) → VlrMove s v (vlr.with_records v (stored vlr.whose (enrolled i cause (at vlr.whose v.records i)) v.records)) ws ls (λ g. ⊥)
-  enrolled_moves i cause = record {
+-- these frames accept no mobile
+abbrev AcceptsNobody : List Outgoing → Type 0
+AcceptsNobody os = (m : Imsi) → list_all (λ o. not (accepts m o.message)) os ≡ true
+
+module _ (s : sgsn.State) (v : vlr.State) (ws : List (List ℕ)) (ls : Stamps) where
+  -- the VLR goes to w, and sends these
+  abbrev Moves : vlr.State → List Outgoing → Type 0
+  Moves w os = VlrMove s v w ws ls (Sends v.own v.last os s.own)
+
+  abbrev Restarts : vlr.State → List Outgoing → Type 0
+  Restarts w os = VlrRestart s v w ws ls (Sends v.own v.last os s.own)
+
+  spared : (os : List Outgoing) → AcceptsNobody os → (m : Imsi) (g : Frame) → Among g (frames_of v.own v.last os) → accepts m g.message ≡ false
+  spared os none m g n = not-true _ (among_all (λ x. not (accepts m x)) v.own v.last os g (none m) n)
+
+  sent_after : (n : ℕ) (os : List Outgoing) → n ≡ v.last + length os → (g : Frame) → Sends v.own v.last os s.own g → (v.last < g.stamp) × (g.stamp ≤ n)
+  sent_after n os now g x = let h = among_stamps v.own v.last os g x.0 in (h.0, omega (arith, h.1, now))
+
+  -- a move that leaves all marks and accepts nobody
+  pub steady : (n : ℕ) (row : Row) (rs : List Record) (os : List Outgoing) → n ≡ v.last + length os → row.reset ≡ v.row.reset → (row.recovery ≡ None → v.row.recovery ≡ None)
+      → ((m : Imsi) → mark_of (at vlr.whose rs m) ≡ marked_by v m) → AcceptsNobody os → Moves (record v { last = n; row = row; records = rs }) os
+  steady n row rs os now reset recovery marks none = record {
     own = refl;
     sgsn = refl;
-    last = omega arith;
-    stamps = λ g n. absurd n;
-    reset = refl;
-    recovery = λ e. inl e;
-    sure = λ m h. inl (ap mark_of (enrolled-at v i cause m) ∙ enrolled_mark i cause (same m i) (record_at v m) ∙ h);
-    accepting = λ m g n k. absurd n;
+    last = omega (arith, now);
+    stamps = sent_after n os now;
+    reset = reset;
+    recovery = λ e. inl (recovery e);
+    sure = λ m h. inl (marks m ∙ h);
+    accepting = λ m g x k. absurd (true≢false (sym k ∙ spared os none m g x.0));
   }
 
-  pub paged_moves : (i : Imsi) (t ch : Option ℕ) → VlrMove s v (paged v) ws ls (Sends v.own v.last (pages v i t ch) s.own)
-  paged_moves i t ch = record {
+  -- nothing changes, and nothing is sent
+  pub still : Moves v []
+  still = steady v.last v.row v.records [] (omega arith) refl (λ e. e) (λ m. refl) (λ m. refl)
+
+  pub enrolled_moves : (i : Imsi) (cause : ℕ) → Moves (with_enrolled v i cause) []
+  enrolled_moves i cause = steady v.last v.row _ [] (omega arith) refl (λ e. e) (λ m. ap mark_of (enrolled-at v i cause m) ∙ enrolled_mark i cause (same m i) (record_at v m)) (λ m. refl)
+
+  pub paged_moves : (i : Imsi) (t ch : Option ℕ) → Moves (paged v) (pages v i t ch)
+  paged_moves i t ch = steady (v.last + 1) v.row v.records (pages v i t ch) refl refl (λ e. e) (λ m. refl) (λ m. refl)
+
+  -- a RESET with this stamp goes out, and nobody is accepted
+  restarted : (n : ℕ) (row : Row) (rs : List Record) (os : List Outgoing) (stamp : ℕ) → n ≡ v.last + length os → row.reset ≡ Some stamp → v.last < stamp → (row.recovery ≡ None → ⊥) → AcceptsNobody os → Restarts (record v { last = n; row = row; records = rs }) os
+  restarted n row rs os stamp now reset later recovery none = record {
     own = refl;
     sgsn = refl;
-    last = omega arith;
-    stamps = λ g n. among_stamps v.own v.last (pages v i t ch) g n.0;
-    reset = refl;
-    recovery = λ e. inl e;
-    sure = λ m h. inl h;
-    accepting = λ m g n k. absurd (true≢false (sym k ∙ not-true _ (among_all (λ x. not (accepts m x)) v.own v.last (pages v i t ch) g refl n.0)));
+    last = omega (arith, now);
+    stamps = sent_after n os now;
+    stamp = stamp;
+    reset = reset;
+    later = later;
+    recovery = recovery;
+    accepting = λ m g x. spared os none m g x.0;
   }
 
-  pub lost_restarts : VlrRestart s v (lost v) ws ls (Sends v.own v.last (resets v) s.own)
-  lost_restarts = record {
-    own = refl;
-    sgsn = refl;
-    last = omega arith;
-    stamps = λ g n. among_stamps v.own v.last (resets v) g n.0;
-    stamp = v.last + 1;
-    reset = refl;
-    later = omega arith;
-    recovery = λ e. none-some _ (sym e);
-    accepting = λ m g n. not-true _ (among_all (λ x. not (accepts m x)) v.own v.last (resets v) g refl n.0);
-  }
+  pub lost_restarts : Restarts (lost v) (resets v)
+  lost_restarts = restarted (v.last + 1) _ _ (resets v) (v.last + 1) refl refl (omega arith) (λ e. none-some _ (sym e)) (λ m. refl)
 
-  spared : (m : Imsi) (g : Frame) → Among g (frames_of v.own v.last (tick_sends v)) → accepts m g.message ≡ false
-  spared m g n = not-true _ (among_all (λ x. not (accepts m x)) v.own v.last (tick_sends v) g (tick_accepts v.own v.sgsn.node m (due_now v.row) (repeat_now v.row)) n)
+  -- a tick repeats the RESET, or not
+  pub ticked_goes : Moves (ticked v) (tick_sends v) ⊎ Restarts (ticked v) (tick_sends v)
+  ticked_goes = by_repeat (repeat_now v.row) refl
+    where
+      none : AcceptsNobody (tick_sends v)
+      none m = tick_accepts v.own v.sgsn.node m (due_now v.row) (repeat_now v.row)
 
-  pub ticked_moves : repeat_now v.row ≡ false → VlrMove s v (ticked v) ws ls (Sends v.own v.last (tick_sends v) s.own)
-  ticked_moves e =
-      let row : (ticked v).row ≡ reset_ticked (due_ticked v.row) = cond-false (repeat_now v.row) _ _ e in
-      record {
-        own = refl;
-        sgsn = refl;
-        last = omega arith;
-        stamps = λ g n. among_stamps v.own v.last (tick_sends v) g n.0;
-        reset = ap (λ x. x.reset) row;
-        recovery = λ h. inl (still_over v.row.recovery (ap (λ x. x.recovery) (sym row) ∙ h));
-        sure = λ m h. inl h;
-        accepting = λ m g n k. absurd (true≢false (sym k ∙ spared m g n.0));
-      }
+      by_repeat : (b : Bool) → repeat_now v.row ≡ b → Moves (ticked v) (tick_sends v) ⊎ Restarts (ticked v) (tick_sends v)
+      by_repeat true e =
+          let stamp = v.last + length (tick.due_sends v.own v.sgsn.node v.row) + 1 in
+          let row : (ticked v).row ≡ repeated (due_ticked v.row) stamp = cond-true (repeat_now v.row) _ _ e in
+          inr (restarted _ (ticked v).row v.records (tick_sends v) stamp refl (ap (λ x. x.reset) row) (omega arith) (λ h. not_over v.row.recovery e (ap (λ x. x.recovery) (sym row) ∙ h)) none)
+      by_repeat false e =
+          let row : (ticked v).row ≡ reset_ticked (due_ticked v.row) = cond-false (repeat_now v.row) _ _ e in
+          inl (steady _ (ticked v).row v.records (tick_sends v) refl (ap (λ x. x.reset) row) (λ h. still_over v.row.recovery (ap (λ x. x.recovery) (sym row) ∙ h)) (λ m. refl) none)
 
-  pub ticked_restarts : repeat_now v.row ≡ true → VlrRestart s v (ticked v) ws ls (Sends v.own v.last (tick_sends v) s.own)
-  ticked_restarts e =
-      let stamp = v.last + length (tick.due_sends v.own v.sgsn.node v.row) + 1 in
-      let row : (ticked v).row ≡ repeated (due_ticked v.row) stamp = cond-true (repeat_now v.row) _ _ e in
-      record {
-        own = refl;
-        sgsn = refl;
-        last = omega arith;
-        stamps = λ g n. among_stamps v.own v.last (tick_sends v) g n.0;
-        stamp = stamp;
-        reset = ap (λ x. x.reset) row;
-        later = omega arith;
-        recovery = λ h. not_over v.row.recovery e (ap (λ x. x.recovery) (sym row) ∙ h);
-        accepting = λ m g n. spared m g n.0;
-      }
-
-  -- a frame of another node has no effect
-  untaken : (ws1 : List (List ℕ)) (ls1 : Stamps) → VlrMove s v v ws1 ls1 (Sends v.own v.last [] s.own)
-  untaken ws1 ls1 = record {
-    own = refl;
-    sgsn = refl;
-    last = omega arith;
-    stamps = λ g n. absurd n.0;
-    reset = refl;
-    recovery = λ e. inl e;
-    sure = λ m h. inl h;
-    accepting = λ m g n k. absurd n.0;
-  }
-
-  module _ (f : Frame) (ws1 : List (List ℕ)) (ls1 : Stamps) (G : Given v.own f ws ls ws1 ls1) (from : f.source ≡ s.own) where
+module _ (s : sgsn.State) (v : vlr.State) (ws : List (List ℕ)) (ls : Stamps) (P : Pair s v ws ls) (f : Frame) (ws1 : List (List ℕ)) (ls1 : Stamps) (G : Given v.own f ws ls ws1 ls1) where
+  module _ (from : f.source ≡ s.own) where
     from_live : Live ws ls s.own v.own f
     from_live = subst (λ a. Live ws ls a v.own f) from G.live
 
@@ -208,25 +204,33 @@ module _ (s : sgsn.State) (v : vlr.State) (ws : List (List ℕ)) (ls : Stamps) (
       agreed = P.acknowledged f from_live k e;
     }
 
-    from_sgsn : VlrMove s v (taken v f) ws1 ls1 (Sends v.own v.last (answers_to v f) s.own)
-    from_sgsn = record {
-      own = refl;
-      sgsn = refl;
-      last = omega arith;
-      stamps = λ g n. among_stamps v.own v.last (answers_to v f) g n.0;
-      reset = (row_kept v.row f.stamp f.answers f.message).0;
-      recovery = λ e. ⊎_elim (λ o. inl o) (λ x. inr (ended _ _ x.0 x.1)) ((row_kept v.row f.stamp f.answers f.message).1 e);
-      sure = λ m h. ⊎_elim (λ t. inr (harmed _ _ m t)) (λ t. inl (ap mark_of (taken-at v f m) ∙ unharmed v.sgsn f.message m (record_at v m) t ∙ h)) (cases_Bool (harms m f.message));
-      accepting = λ m g n k.
-          let sent = answer_frame v.own v.last v.sgsn.node f.stamp (answer_to (noted v f.message) f.message) g n.0 in
-          let now : ls1 s.own v.own ≡ f.stamp = ap (λ a. ls1 a v.own) (sym from) ∙ G.now in
-          (ap mark_of (taken-at v f m) ∙ accepted_sure v f.message m g.message sent.0 k, omega (arith, sent.1), omega (arith, sent.1, P.down f from_live));
-    }
+    from_sgsn : Moves s v ws1 ls1 (taken_by v f f.message).after (taken_by v f f.message).sends
+    from_sgsn =
+        let k = f.message in
+        let p = taken_by v f k in
+        let sgsn : p.after.sgsn ≡ v.sgsn = taken_sgsn v f k in
+        let last : p.after.last ≡ v.last + length p.sends = taken_last v f k in
+        record {
+          own = taken_own v f k;
+          sgsn = sgsn;
+          last = omega (arith, last);
+          stamps = sent_after s v ws1 ls1 p.after.last p.sends last;
+          reset = (row_kept v f k).0;
+          recovery = λ e. ⊎_elim (λ o. inl o) (λ x. inr (ended _ _ x.0 x.1)) ((row_kept v f k).1 e);
+          sure = λ m h. ⊎_elim
+              (λ t. inr (harmed _ _ m t))
+              (λ t. inl (ap mark_of (taken-at v f k m) ∙ unharmed v.sgsn k m (record_at v m) t ∙ h ∙ ap mark.Confirmed (sym sgsn)))
+              (cases_Bool (harms m k));
+          accepting = λ m g n a.
+              let sent = answers v f k g n.0 in
+              let now : ls1 s.own v.own ≡ f.stamp = ap (λ x. ls1 x v.own) (sym from) ∙ G.now in
+              (ap mark_of (taken-at v f k m) ∙ accepted_sure v k m g.message sent.0 a ∙ ap mark.Confirmed (sym sgsn), omega (arith, sent.1), omega (arith, sent.1, P.down f from_live));
+        }
 
   -- after a take for the VLR
-  pub taken_moves : (f : Frame) (ws1 : List (List ℕ)) (ls1 : Stamps) → Given v.own f ws ls ws1 ls1 → VlrMove s v (moved_by_frame v f) ws1 ls1 (Sends v.own v.last (sends_by_frame v f) s.own)
-  taken_moves f ws1 ls1 G = by_sender (is_from v.sgsn.node f) refl
+  pub taken_moves : Moves s v ws1 ls1 (frame_plan v f).after (frame_plan v f).sends
+  taken_moves = by_sender (is_from v.sgsn.node f) refl
     where
-      by_sender : (b : Bool) → is_from v.sgsn.node f ≡ b → VlrMove s v (cond b (taken v f) v) ws1 ls1 (Sends v.own v.last (cond b (answers_to v f) []) s.own)
-      by_sender true e = from_sgsn f ws1 ls1 G (same_node_lem f.source v.sgsn.node (and_parts (same_node f.source v.sgsn.node) (names_sender v.sgsn.node f.message) e).0 ∙ P.its)
-      by_sender false e = untaken ws1 ls1
+      by_sender : (b : Bool) → is_from v.sgsn.node f ≡ b → let p : Plan Delivery vlr.State = cond b (taken_by v f f.message) (quietly v) in Moves s v ws1 ls1 p.after p.sends
+      by_sender true e = from_sgsn (same_node_lem f.source v.sgsn.node (and_parts (same_node f.source v.sgsn.node) (names_sender v.sgsn.node f.message) e).0 ∙ P.its)
+      by_sender false e = still s v ws1 ls1

@@ -88,6 +88,8 @@ abbrev pub Events : Type 0
 Events = List (Call × Answer)
 
 -- The site came to be so from a new one by these calls.
-pub data Came {C : Type 0} (waiting : C → List (List ℕ)) (takes : C → NodeNumber → Option (List ℕ) → C → Type 0) (puts : C → List ℕ → C → Type 0) : Events → View C → Type 0 where
+pub data Came {C : Type 0} (waiting : C → List (List ℕ)) (takes : C → NodeNumber → Option (List ℕ) → C → Type 0)
+    (puts : C → List ℕ → C → Type 0) : Events → View C → Type 0 where
   new : {x : View C} → New waiting x → Came waiting takes puts [] x
-  next : {c : Call} {a : Answer} {es : Events} {x y : View C} → Came waiting takes puts es x → Step takes puts c a x y → Came waiting takes puts ((c, a) ∷ es) y
+  next : {c : Call} {a : Answer} {es : Events} {x y : View C} → Came waiting takes puts es x → Step takes puts c a x y
+      → Came waiting takes puts ((c, a) ∷ es) y
