@@ -6,7 +6,7 @@ use Rattle.site.proofs.ByHand.{settles, lawfully}
 use Rattle.site.proofs.site.Site.settle.Goals as goal
 
 pub returns-clause-step : goal.returns-clause-step
-returns-clause-step g c = settles g.C.Carrier.takes g.C.Carrier.puts c.args.reply c.settle.result (view_of c.args.self.now) (record { sgsn = state_of c.settle.new.self; vlrs = states_of c.args.self.now.vlrs.items; carrier = c.args.self.now.carrier }) c.settle.ensures.value c.settle.ensures.state refl refl
+returns-clause-step g c = settles g.C.Carrier.takes g.C.Carrier.puts c.args.reply c.settle.result (view_of c.args.self.now) (record { sgsn = state_of c.settle.new.self; vlrs = states_of c.args.self.now.vlrs.items; carrier = c.args.self.now.carrier }) c.settle.ensures refl refl
 
 pub returns-clause-law : goal.returns-clause-law
 returns-clause-law g c es came =
@@ -17,6 +17,4 @@ returns-clause-law g c es came =
       still = g.met.C.InOrder.still;
       moves = g.met.C.InOrder.moves;
     } in
-    let x = view_of c.args.self.now in
-    let step = settles g.C.Carrier.takes g.C.Carrier.puts c.args.reply c.settle.result x (record { sgsn = state_of c.settle.new.self; vlrs = states_of c.args.self.now.vlrs.items; carrier = c.args.self.now.carrier }) c.settle.ensures.value c.settle.ensures.state refl refl in
-    lawfully g.C.Carrier.takes g.C.Carrier.puts g.C.Carrier.waiting g.C.InOrder.last_given carries es x (record { sgsn = state_of c.settle.new.self; vlrs = states_of c.args.self.now.vlrs.items; carrier = c.args.self.now.carrier }) came c.args.reply c.settle.result step
+    lawfully g.C.Carrier.takes g.C.Carrier.puts g.C.Carrier.waiting g.C.InOrder.last_given carries es (view_of c.args.self.now) (record { sgsn = state_of c.settle.new.self; vlrs = states_of c.args.self.now.vlrs.items; carrier = c.args.self.now.carrier }) came c.args.reply c.settle.result (returns-clause-step g c)
