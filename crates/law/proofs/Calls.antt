@@ -1,5 +1,5 @@
 -- Each call keeps what stands at a whole site, so that it stands after any calls.
-use Rattle.std.proofs.Common.{◌≡◌, ℕ, inl, inr, Bool, true, false, if◌then◌else◌, List, ◌∷◌, ◌++◌, Ok, Err, Some, None, Option, Result, sym, refl, ap, subst}
+use Rattle.std.proofs.Common.{◌≡◌, ℕ, inl, inr, Bool, true, false, if◌then◌else◌, List, ◌∷◌, ◌++◌, Ok, Err, Some, None, Option, Result, sym, refl, subst}
 use Rattle.elements.specs.declared.fault.Fault.{Fault}
 use Rattle.elements.specs.declared.node.NodeNumber.{NodeNumber}
 use Rattle.elements.specs.declared.node.VlrNumber.{VlrNumber}
@@ -34,7 +34,7 @@ use Rattle.law.specs.declared.call.Call.{Call}
 use Rattle.law.specs.declared.call.Call.TheVariants as call
 use Rattle.law.specs.declared.call.Answer.{Answer}
 use Rattle.law.specs.Tables.{View}
-use Rattle.law.specs.Steps.{is_vlr, is_sgsn, SgsnMakes, VlrMakes, AtSgsn, AtVlr, Step, New, Events, Came}
+use Rattle.law.specs.Steps.{is_vlr, is_sgsn, AtSgsn, AtVlr, Step, New, Events, Came}
 use Rattle.law.specs.Sound.{Pair}
 use Rattle.law.proofs.Premises.{Given, Sends, SgsnMove}
 use Rattle.law.proofs.Carried.{After, Carries, sent, readable, took}

@@ -1,5 +1,5 @@
 -- Each call of an SGSN that is not denied keeps what the SGSN is to keep, and shows each VLR what it must.
-use Rattle.std.proofs.Common.{◌≡◌, ℕ, ◌+◌, true, List, [], Some, Ok, refl, subst, arith}
+use Rattle.std.proofs.Common.{◌≡◌, ℕ, ◌+◌, true, List, [], Ok, refl, subst, arith}
 use Rattle.std.proofs.lemmas.Option.{none-some}
 use Rattle.imsi.specs.declared.Imsi.{Imsi}
 use Rattle.carrier.specs.Order.{Stamps}
@@ -20,7 +20,7 @@ use Rattle.sgsn.specs.Detaching.{detach_plan}
 use Rattle.sgsn.specs.Settling.{settle_plan}
 use Rattle.sgsn.specs.Recovering.{lost, resets, ticked, tick_sends, lose_plan, tick_plan}
 use Rattle.sgsn.specs.Making.{all_different}
-use Rattle.sgsn.specs.State.{State, vlrs_of, record_at}
+use Rattle.sgsn.specs.State.{State, vlrs_of}
 use Rattle.sgsn.proofs.Fits.{fits_new, fits_attached, fits_requested, fits_detached, fits_settled}
 use Rattle.sgsn.proofs.Granted.{enrol_granted, attach_granted, request_granted, detach_granted, settle_granted}
 use Rattle.sgsn.proofs.Moves.{settled_errand, settled}

@@ -1,5 +1,5 @@
 -- A frame that an SGSN took.
-use Rattle.std.proofs.Common.{◌≡◌, ℕ, ◌+◌, ◌<◌, ◌≤◌, ◌⊎◌, inl, inr, Bool, true, false, not, cond, ◌&&◌, ◌==◌, nat_lt, is_some, List, [], map, length, Some, None, Option, refl, sym, ap, ◌∙◌, subst, ⊎_elim, arith}
+use Rattle.std.proofs.Common.{◌≡◌, ℕ, ◌+◌, ◌<◌, ◌≤◌, ◌⊎◌, inl, inr, Bool, true, false, not, cond, ◌&&◌, ◌==◌, nat_lt, is_some, List, [], map, Some, None, Option, refl, sym, ap, ◌∙◌, subst, ⊎_elim, arith}
 use Rattle.std.proofs.lemmas.Bool.{true≢false, not-true, cases_Bool, cond-true, cond_both, and_parts, ltb-true, eqb-true}
 use Rattle.std.proofs.lemmas.Bool.Decides.{nat_tests}
 use Rattle.std.proofs.lemmas.Option.{none-some, same_Some}
@@ -10,7 +10,7 @@ use Rattle.elements.specs.declared.code.RejectCause.{RejectCause}
 use Rattle.elements.specs.declared.node.VlrNumber.{VlrNumber}
 use Rattle.elements.specs.Nodes.{same_node}
 use Rattle.messages.specs.declared.message.Message.{Message}
-use Rattle.messages.specs.declared.message.Message.TheVariants.{Paging, PagingFailure, MobileStatus, LuAccept, LuReject, Reset, ResetAcknowledge, GprsDetachAcknowledge, ImsiDetachAcknowledge}
+use Rattle.messages.specs.declared.message.Message.TheVariants.{Paging, MobileStatus, LuAccept, LuReject, Reset, ResetAcknowledge, GprsDetachAcknowledge, ImsiDetachAcknowledge}
 use Rattle.frames.specs.declared.frame.Frame.{Frame}
 use Rattle.carrier.specs.Nodes.{same_node_lem, own_node}
 use Rattle.carrier.specs.Order.{Stamps}
@@ -39,8 +39,8 @@ use Rattle.sgsn.specs.Delivering.{noted, acknowledged_by, answered_by, reset_by,
 use Rattle.vlr.specs.State as vlr
 use Rattle.law.specs.Tables.{errand_in}
 use Rattle.law.specs.Sound.{Live, Pair, SureBy, accepts, asked, asked_in, update_stamp, answered_by as due_answers, peer_of, reset_in, reset_to, due_in}
-use Rattle.law.proofs.Premises.{Fit, Given, Granted, Heard, Sends, SgsnMove}
-use Rattle.law.proofs.Quieter.{Quieter, FoundQuieter, quieter_go, none_unsure, unsure_unsure, same_record, quieter_doubtful_at, quieter_map, found_quieter, unsure_map, found_unsure, doubtful_there}
+use Rattle.law.proofs.Premises.{Fit, Given, Granted, Heard, Sends}
+use Rattle.law.proofs.Quieter.{Quieter, FoundQuieter, quieter_go, unsure_unsure, same_record, quieter_doubtful_at, quieter_map, found_quieter, unsure_map, found_unsure, doubtful_there}
 use Rattle.law.proofs.Sendings.{given_live}
 use Rattle.law.proofs.Served.{sure_served, asks_open, asking_served, moving_served}
 use Rattle.law.proofs.Rows.{its_source, sent_by, its_peer, row_kept, reset_due}

@@ -1,5 +1,5 @@
 -- What calls with their answers, the last one first, say of replies.
-use Rattle.std.specs.Prelude.{ℕ, ◌+◌, Bool, true, false, if◌then◌else◌, ◌&&◌, [], ◌∷◌, Ok, Err, Result}
+use Rattle.std.specs.Prelude.{ℕ, ◌+◌, Bool, true, false, if◌then◌else◌, ◌&&◌, [], ◌∷◌, Err, Result}
 use Rattle.imsi.specs.declared.Imsi.{Imsi}
 use Rattle.directory.specs.Order.{same}
 use Rattle.elements.specs.declared.node.NodeNumber.{NodeNumber}

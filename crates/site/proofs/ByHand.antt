@@ -1,5 +1,5 @@
 -- A call by hand is the same step as the call that keeps no reply, and stands under the same law.
-use Rattle.std.proofs.Common.{◌≡◌, ℕ, Bool, true, false, cond, List, Ok, Err, Option, Result, sym, refl, ap, subst}
+use Rattle.std.proofs.Common.{◌≡◌, ℕ, Bool, true, false, List, Ok, Err, Option, Result, sym, refl, ap, subst}
 use Rattle.elements.specs.declared.node.NodeNumber.{NodeNumber}
 use Rattle.carrier.specs.Nodes.{own_node}
 use Rattle.carrier.specs.Order.{Stamps}
@@ -7,7 +7,7 @@ use Rattle.station.specs.declared.denial.Denial.{Denial}
 use Rattle.station.specs.declared.denial.Denial.TheVariants as denial
 use Rattle.station.specs.declared.receiving.Refusal.{Refusal}
 use Rattle.station.specs.declared.receiving.Refusal.TheVariants.{Denied}
-use Rattle.station.specs.Calls.{Plan, AtOnce, ask, plan_with, handed_on, Done, Decides, Does}
+use Rattle.station.specs.Calls.{Plan, ask, plan_with, handed_on, Done, Decides, Does}
 use Rattle.station.proofs.Answering.{decided_done}
 use Rattle.context.specs.declared.errand.Verdict.{Verdict}
 use Rattle.sgsn.specs.declared.call.SgsnAnswer.{SgsnAnswer}
@@ -25,7 +25,7 @@ use Rattle.law.specs.Steps.{Events, Came, AtSgsn, Step}
 use Rattle.law.specs.Tables.{View}
 use Rattle.law.proofs.Carried.{Carries}
 use Rattle.law.proofs.Lawful.{law_after, law_step}
-use Rattle.site.specs.ByHand.{own_call, settled_by, is_its, SettlesAs, Settles, with_settling}
+use Rattle.site.specs.ByHand.{own_call, is_its, SettlesAs, Settles, with_settling}
 
 module _ {C : Type 0} (takes : C → NodeNumber → Option (List ℕ) → C → Type 0) (puts : C → List ℕ → C → Type 0) where
   -- a call of the site's SGSN
