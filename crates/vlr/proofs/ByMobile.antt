@@ -18,7 +18,6 @@ use Rattle.vlr.specs.Records.{doubtful, doubtful_at, confirmed, unmarked, sure_a
 use Rattle.vlr.specs.Moves.{message_move}
 use Rattle.vlr.specs.State.{State, own_of, last_of, whose}
 use Rattle.vlr.specs.Delivering.{found, records_with, taken_by}
-use Rattle.vlr.specs.Recovering.{lost}
 use Rattle.vlr.specs.Enrolling.{enrolled, with_enrolled, enrol_plan}
 use Rattle.vlr.specs.Laws.{record_at, by_message, by_enrolment, of_mobile, unless_denied, ByMobile}
 use Rattle.vlr.proofs.Granted.{enrol_granted}
@@ -66,10 +65,6 @@ pub taken-at : (s : State) (f : Frame) (a : Message) (m : Imsi) → record_at (t
 taken-at s f (Reset e) m = at-map whose (doubtful_at s.sgsn) (doubtful-whose s.sgsn) s.records m
 taken-at s f (ResetAcknowledge e) m = refl
 taken-at s f a m = about_at s a (mobile_of a) m
-
--- all marks were lost
-pub lost-at : (s : State) (m : Imsi) → record_at (lost s) m ≡ option_map doubtful (record_at s m)
-lost-at s m = at-map whose doubtful (λ r. refl) s.records m
 
 -- a mobile was enrolled
 pub enrolled-at : (s : State) (i : Imsi) (c : ℕ) (m : Imsi) → record_at (with_enrolled s i c) m ≡ cond (same m i) (Some (enrolled i c (record_at s m))) (record_at s m)
