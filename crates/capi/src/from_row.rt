@@ -1,7 +1,9 @@
 // The frame that a row of numbers says. Every fault is at place 0, since a row has no octets.
 ghost use Rattle.std.specs.Prelude.{◌≡◌, Ok};
 ghost use Rattle.capi.specs.Rows.{fields_of};
-ghost use Rattle.capi.specs.Taken.{Fitted, FittedOption, node_from, code_from, area_from, imsi_from, paging_from, lu_request_from, lu_accept_from, body_from, message_from, frame_from};
+ghost use Rattle.capi.specs.Taken.{Fitted, FittedOption, node_from, code_from, area_from, imsi_from};
+ghost use Rattle.capi.specs.Taken.{paging_from, lu_request_from, lu_accept_from, body_from, message_from};
+ghost use Rattle.capi.specs.Taken.{frame_from};
 
 use crate::row::Row;
 use elements::area::LocationArea;

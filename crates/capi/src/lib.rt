@@ -29,7 +29,8 @@ ghost use Rattle.frames.specs.Format.{frame_in};
 ghost use Rattle.frames.specs.Writing.{frame_written};
 ghost use Rattle.capi.specs.Rows.{fields_of};
 ghost use Rattle.capi.specs.Taken.{frame_from};
-ghost use Rattle.capi.specs.Replies.{refusal_of, buffer_left, read_answer, read_fields, write_answer, write_buffer};
+ghost use Rattle.capi.specs.Replies.{refusal_of, buffer_left, read_answer, read_fields, write_answer};
+ghost use Rattle.capi.specs.Replies.{write_buffer};
 
 use crate::row::{FIELDS, Row};
 use elements::fault::Fault;

@@ -5,7 +5,8 @@ ghost use Rattle.capi.specs.Rows.{fields_of, row_in_front};
 // How many fields a frame has.
 pub(crate) const FIELDS: usize = 15;
 
-// The fields in their order. Two numbers, a flag and a value, stand for an `Option`, since C gets and gives this row.
+// The fields in their order. Two numbers, a flag and a value, stand for an `Option`,
+// since C gets and gives this row.
 #[derive(Clone, Copy, Default)]
 pub(crate) struct Row {
     pub source: u64,

@@ -1,4 +1,5 @@
-// The two functions of `capi` under the names that C calls; `capi` says what a row is and what the answers mean.
+// The two functions of `capi` under the names that C calls; `capi` says what a
+// row is and what the answers mean.
 #![tactic(auto)]
 
 ghost use Rattle.std.specs.Prelude.{◌≡◌, ◌<◌, take};

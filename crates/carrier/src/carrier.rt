@@ -26,7 +26,9 @@ pub trait Carrier {
 
     ghost adds: { (s : Self) (f : List ℕ) (t : Self) → puts s f t → Adds (waiting s) f (waiting t) };
 
-    ghost gives: { (s : Self) (n : Node) (r : Option (List ℕ)) (t : Self) → takes s n r t → Gives (waiting s) n r };
+    ghost gives: { (s : Self) (n : Node) (r : Option (List ℕ)) (t : Self)
+        → takes s n r t → Gives (waiting s) n r };
 
-    ghost leaves: { (s : Self) (n : Node) (r : Option (List ℕ)) (t : Self) → takes s n r t → Leaves (waiting s) (waiting t) };
+    ghost leaves: { (s : Self) (n : Node) (r : Option (List ℕ)) (t : Self)
+        → takes s n r t → Leaves (waiting s) (waiting t) };
 }

@@ -4,9 +4,8 @@ ghost use Rattle.std.specs.Prelude.{◌≡◌, ◌≤◌};
 use std::error::Error;
 use std::fmt;
 
-// The first `len` of `octets`.
-// An array with its length beside, not an ArrayVec, whose copies are Results: carriers keep a datagram and give it at
-// once, and copying one must not fail.
+// The first `len` of `octets`. An array with its length beside, not an ArrayVec, whose copies are Results:
+// carriers keep a datagram and give it at once, and copying one must not fail.
 #[derive(Clone, Copy)]
 pub struct Datagram {
     pub octets: [u8; 64],

@@ -9,9 +9,9 @@ use crate::carrier::Carrier;
 use crate::datagram::Datagram;
 use elements::node::NodeNumber;
 
-// A frame given has a higher stamp than all given before from its source to its node. The stamp last given,
-// 0 when new, is moved only by a frame given. Its put and take are its own, so that their contracts name the frames that
-// wait and the stamps.
+// A frame given has a higher stamp than all given before from its source to its node. The stamp last given, 0
+// when new, is moved only by a frame given. Its put and take are its own, so that their contracts name the
+// frames that wait and the stamps.
 pub trait InOrder: Carrier {
     ghost last_given: { Self → Stamps };
 
@@ -32,7 +32,9 @@ pub trait InOrder: Carrier {
         Carrier::take(self, node)
     }
 
-    ghost still: { (s : Self) (f : List ℕ) (t : Self) → Self.Carrier.puts s f t → Still (last_given s) (last_given t) };
+    ghost still: { (s : Self) (f : List ℕ) (t : Self)
+        → Self.Carrier.puts s f t → Still (last_given s) (last_given t) };
 
-    ghost moves: { (s : Self) (n : Node) (r : Option (List ℕ)) (t : Self) → Self.Carrier.takes s n r t → Moves (last_given s) r (last_given t) };
+    ghost moves: { (s : Self) (n : Node) (r : Option (List ℕ)) (t : Self)
+        → Self.Carrier.takes s n r t → Moves (last_given s) r (last_given t) };
 }

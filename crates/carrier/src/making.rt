@@ -30,7 +30,8 @@ fn padded(octets: &[u8]) -> [u8; 64]
 impl TryFrom<&[u8]> for Datagram {
     type Error = WrongLength;
 
-    ghost try_from_gives = { λ o r. (carried (result_ok r) ≡ travelling o.now) × IfErr r (λ e. e.len ≡ length o.now) };
+    ghost try_from_gives = { λ o r. (carried (result_ok r) ≡ travelling o.now)
+        × IfErr r (λ e. e.len ≡ length o.now) };
 
     fn try_from(octets: &[u8]) -> Result<Datagram, WrongLength> {
         let len = octets.len();

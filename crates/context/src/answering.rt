@@ -10,8 +10,8 @@ use messages::message::Message;
 use station::mark::Mark;
 
 impl Context {
-    // The VLR serves the mobile. It is sure unless a RESET, the last of which has the stamp `reset`, went there since the
-    // request: after the VLR accepted, that may have made it unsure.
+    // The VLR serves the mobile. It is sure unless a RESET, the last of which has the stamp `reset`, went
+    // there since the request: after the VLR accepted, that may have made it unsure.
     fn accepted(self, pending: Open, new_area: LocationArea, reset: Option<u32>) -> Context
         ensures { result ≡ accepted pending new_area reset self }
     {
@@ -27,7 +27,8 @@ impl Context {
         }
     }
 
-    // No VLR serves the mobile any more, and the request or detach has this verdict; packet service stays or not.
+    // No VLR serves the mobile any more, and the request or detach has this
+    // verdict; packet service stays or not.
     pub(crate) fn let_go(self, stays: bool, verdict: Verdict) -> Context
         ensures { result ≡ let_go stays verdict self }
     {
@@ -38,7 +39,8 @@ impl Context {
         }
     }
 
-    // The record after a message that answers its open request or detach. One that is no answer to that changes nothing.
+    // The record after a message that answers its open request or detach. One that is no
+    // answer to that changes nothing.
     fn matched(self, pending: Open, reset: Option<u32>, message: Message) -> Context
         ensures { result ≡ matched pending reset message self }
     {
@@ -59,8 +61,9 @@ impl Context {
         }
     }
 
-    // The record after a message from this VLR that answers this stamp, where the last RESET that went there has the stamp
-    // `reset`. The IMSI alone does not match: the request may have expired, and another may be open.
+    // The record after a message from this VLR that answers this stamp, where the last RESET that
+    // went there has the stamp `reset`. The IMSI alone does not match: the request may have
+    // expired, and another may be open.
     pub fn answered(
         self,
         vlr: VlrNumber,

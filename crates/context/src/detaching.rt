@@ -64,7 +64,8 @@ impl DetachKind {
 }
 
 impl Context {
-    // The record after the detach, and what goes with this stamp to the VLR that the mark names, if it names one.
+    // The record after the detach, and what goes with this stamp to the VLR that
+    // the mark names, if it names one.
     pub fn detached(self, kind: DetachKind, stamp: u32) -> (Context, Option<Outgoing>)
         ensures { result ≡ detached kind stamp self }
     {

@@ -47,7 +47,8 @@ impl RequestKind {
     }
 }
 
-// What comes with a request: the code of its kind, the VLR that is to serve the mobile, and the areas that it left and entered.
+// What comes with a request: the code of its kind, the VLR that is to serve the mobile, and the
+// areas that it left and entered.
 #[derive(Clone, Copy, Debug, PartialEq, Eq)]
 pub struct Request {
     pub kind: u8,

@@ -20,8 +20,9 @@ impl Context {
             && self.mark.node() != Some(vlr)
     }
 
-    // The record after a page from this VLR with this stamp, and what is sent for it: that it cannot be carried out, to that
-    // VLR; or that the mobile is another's, to the VLR that the mark names. The page may be old, so that its VLR is not sure.
+    // The record after a page from this VLR with this stamp, and what is sent for it: that it cannot be
+    // carried out, to that VLR; or that the mobile is another's, to the VLR that the mark names. The page may
+    // be old, so that its VLR is not sure.
     pub fn paged(self, vlr: VlrNumber, stamp: u32) -> (Context, Option<Outgoing>)
         ensures { result ≡ paged vlr stamp self }
     {

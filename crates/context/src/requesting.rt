@@ -21,8 +21,8 @@ impl Context {
         kind == RequestKind::ImsiAttach && self.mark == Mark::Confirmed(request.vlr)
     }
 
-    // The record after the request, and what goes to the VLR with this stamp, if anything: the mobile has voice service of
-    // this class.
+    // The record after the request, and what goes to the VLR with this stamp, if anything: the mobile
+    // has voice service of this class.
     pub fn requested(
         self,
         kind: RequestKind,

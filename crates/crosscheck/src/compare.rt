@@ -1,6 +1,6 @@
-// The library's answer in plain numbers, and whether it writes what it has read as the same octets. The numbers
-// of types and elements, and an area's number, are written again here: whether the library numbers rightly is what is
-// checked.
+// The library's answer in plain numbers, and whether it writes what it has read as the same octets. The
+// numbers of types and elements, and an area's number, are written again here: whether the library
+// numbers rightly is what is checked.
 ghost use Rattle.std.specs.Prelude.{◌≡◌, ℕ, ◌<◌, ◌≤◌, true, length, slice_index};
 
 use crate::answer::{Answer, Content, Found, Header, Part, Refusal};
@@ -186,8 +186,10 @@ fn flat(message: Message) -> Content {
 // Does the buffer hold exactly these octets, and nothing new behind them?
 fn holds(buffer: &[u8], octets: &[u8]) -> bool
     ensures room { result ≡ true → length octets.now ≤ length buffer.now }
-    ensures same { result ≡ true → (k : ℕ) → k < length buffer.now → k < length octets.now → slice_index buffer.now k ≡ slice_index octets.now k }
-    ensures beyond { result ≡ true → (k : ℕ) → k < length buffer.now → length octets.now ≤ k → slice_index buffer.now k ≡ 165 }
+    ensures same { result ≡ true → (k : ℕ) → k < length buffer.now → k < length octets.now
+        → slice_index buffer.now k ≡ slice_index octets.now k }
+    ensures beyond { result ≡ true → (k : ℕ) → k < length buffer.now → length octets.now ≤ k
+        → slice_index buffer.now k ≡ 165 }
 {
     let Some(behind) = buffer.strip_prefix(octets) else {
         return false;

@@ -24,7 +24,8 @@ impl Source {
 
     // The next number. The low bits of a state repeat soon, so only its high half is given out.
     fn next(&mut self) -> u64
-        ensures state { self.new.state ≡ (self.old.state * 6364136223846793005 + 1442695040888963407) % 2 ^ 64 }
+        ensures state { self.new.state
+            ≡ (self.old.state * 6364136223846793005 + 1442695040888963407) % 2 ^ 64 }
         ensures bound { result < 2 ^ 32 }
     {
         self.state = self.state.wrapping_mul(FACTOR).wrapping_add(STEP);

@@ -60,7 +60,8 @@ impl Trials<'_> {
         Ok(())
     }
 
-    // Each octet replaced by every value that it can have. Places alone are counted: what stood there does not matter.
+    // Each octet replaced by every value that it can have. Places alone are counted:
+    // what stood there does not matter.
     fn replaced_by_all(&mut self, sample: Sample) -> anyhow::Result<()> {
         let values: Vec<u8> = (0..=255).collect(self.rt.alloc())?;
         for place in 0..sample.octets.len() {

@@ -14,7 +14,8 @@ use words::in_words::InWords;
 // The input is read as octets, since a line that is no text is a bad line too, and not the end.
 fn main(rt: HostRuntime) -> io::Result<()> {
     let mut tally = Tally::new();
-    // By `count`, which stays at the largest number: `enumerate` would ask for a proof that the lines end before it.
+    // By `count`, which stays at the largest number: `enumerate` would ask for a
+    // proof that the lines end before it.
     let mut number: u64 = 0;
     for line in BufReader::new(rt.alloc(), rt.stdin())?.split(rt.alloc(), b'\n') {
         let line = line?;

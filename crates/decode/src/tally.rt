@@ -13,9 +13,9 @@ const FIRST: u8 = 20;
 #[derive(Clone, Copy, Default)]
 pub struct Tally {
     pub frames: u64,
-    // By number from 20 to 28. An array, not a map, which would ask for memory, nor a table of pairs, to be searched: a
-    // fault's number is its place.
-    // The last of them, a buffer too short to write into, is never met in reading.
+    // By number from 20 to 28. An array, not a map, which would ask for memory, nor a table of pairs,
+    // to be searched: a fault's number is its place. The last of them, a buffer too short to write
+    // into, is never met in reading.
     pub faults: [u64; 9],
     pub bad_lines: u64,
 }

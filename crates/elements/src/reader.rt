@@ -1,7 +1,8 @@
 // Elements read from octets, one after another.
 ghost use Rattle.std.specs.Prelude.{◌≡◌, ◌+◌, ◌/◌, ◌<◌, length, MatchOption, IfSome, IfOk, OnOk, slice_get};
 ghost use Rattle.elements.specs.Areas.{element_of};
-ghost use Rattle.elements.specs.Reading.{next_is, element_at, coded_at, imsi_at, number_at, after_tmsi, tmsi_at, after_channel, channel_at, area_at, end_at};
+ghost use Rattle.elements.specs.Reading.{next_is, element_at, coded_at, imsi_at, number_at, after_tmsi};
+ghost use Rattle.elements.specs.Reading.{tmsi_at, after_channel, channel_at, area_at, end_at};
 
 use crate::area::{Area, LocationArea};
 use crate::code::Coded;
@@ -17,8 +18,8 @@ pub fn number_at(octets: &[u8], at: usize) -> Option<u32>
     Some(u32::from_be_bytes(*four))
 }
 
-// Octets, and the place at which the next element is read. Each reading that succeeds steps over what it read;
-// `coded` is for elements of one octet.
+// Octets, and the place at which the next element is read. Each reading that succeeds steps over what it
+// read; `coded` is for elements of one octet.
 #[derive(Clone, Copy, Debug)]
 pub struct Reader<'a> {
     pub octets: &'a [u8],
@@ -51,7 +52,8 @@ impl<'a> Reader<'a> {
         at < octets.len() && octets[at] == element.identifier()
     }
 
-    // How many content octets the element has that comes next; they stand behind its identifier and its length.
+    // How many content octets the element has that comes next; they stand behind
+    // its identifier and its length.
     pub fn content_count(&self, element: Element) -> Result<usize, Fault>
         ensures { result ≡ element_at self.now.octets.now self.now.at element }
     {

@@ -18,7 +18,8 @@ fn may_go(source: NodeNumber, destination: NodeNumber) -> bool
 // Puts nodes and stamps at the front of the buffer.
 fn put_header(frame: Frame, buffer: &mut [u8])
     requires { 10 ≤ length buffer.old }
-    ensures { buffer.new ≡ header_octets frame.source frame.destination frame.stamp frame.answers ++ drop 10 buffer.old }
+    ensures { buffer.new
+        ≡ header_octets frame.source frame.destination frame.stamp frame.answers ++ drop 10 buffer.old }
 {
     buffer[0] = frame.source.number;
     buffer[1] = frame.destination.number;

@@ -35,8 +35,8 @@ impl<C: Carrier> Gate<C> {
     }
 }
 
-// What the gate lets through of what came from below: a frame that reads, above the stamp last given of its pair, of a
-// pair that is among the first 16.
+// What the gate lets through of what came from below: a frame that reads, above the stamp last given of its
+// pair, of a pair that is among the first 16.
 fn pass(pairs: &mut Pairs, came: Option<Datagram>) -> Option<Datagram>
     ensures { Passed (rows_of pairs.old) (carried came) (carried result) (rows_of pairs.new) }
 {
@@ -55,13 +55,15 @@ impl<C: Carrier> Carrier for Gate<C> {
 
     ghost puts = { λ g f h. C.Carrier.puts g.below f h.below × (h.pairs ≡ g.pairs) };
 
-    ghost takes = { λ g n r h. Gated C.Carrier.takes g.below (rows_of g.pairs) n r h.below (rows_of h.pairs) };
+    ghost takes = { λ g n r h.
+        Gated C.Carrier.takes g.below (rows_of g.pairs) n r h.below (rows_of h.pairs) };
 
     ghost adds = { λ s f t p. C.Carrier.adds s.below f t.below p.0 };
 
     ghost gives = { λ s n r t (came, p, q).
         let w = C.Carrier.waiting s.below in
-        ⊎_elim (λ e. subst (Gives w n) (sym e) (C.Carrier.gives s.below n came t.below p)) (λ e. subst (Gives w n) (sym e) tt) (passed _ _ came r q) };
+        ⊎_elim (λ e. subst (Gives w n) (sym e) (C.Carrier.gives s.below n came t.below p))
+        (λ e. subst (Gives w n) (sym e) tt) (passed _ _ came r q) };
 
     ghost leaves = { λ s n r t (came, p, q). C.Carrier.leaves s.below n came t.below p };
 

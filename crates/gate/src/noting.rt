@@ -34,7 +34,9 @@ impl Pairs {
     // Notes a stamp that is above the last given of its pair, if the pair has a row or can get one.
     pub fn note(&mut self, route: Route, stamp: u32) -> bool
         ensures answer { result ≡ fresh (rows_of self.old) route.source route.destination stamp }
-        ensures rows { rows_of self.new ≡ (if result then noted (rows_of self.old) route.source route.destination stamp else rows_of self.old) }
+        ensures rows { rows_of self.new
+            ≡ (if result then noted (rows_of self.old) route.source route.destination stamp
+            else rows_of self.old) }
     {
         match self.row_of(route) {
             Some(i) => {

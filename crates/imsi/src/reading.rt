@@ -29,7 +29,8 @@ fn digits_by_marker(octets: &[u8]) -> Option<(u8, u64)>
     Some((count as u8, value_in(octets, count)?))
 }
 
-// The digit count and the value that these octets spell, the pair from which an `Imsi` is made, or nothing where they spell no IMSI.
+// The digit count and the value that these octets spell, the pair from which an `Imsi` is made, or
+// nothing where they spell no IMSI.
 pub fn digits_in(octets: &[u8]) -> Option<(u8, u64)>
     ensures value { result ≡ imsi_in octets.now }
     ensures exactly { ReadsExactly octets.now result }

@@ -24,7 +24,7 @@ pub enum Answer {
 }
 
 impl Answer {
-    // The call was not denied, and its node is here: so it was made, if only to find that what came is no frame.
+    // The node is here, and made the call, if only to find that what came is no frame.
     pub fn is_accepted(self) -> bool
         ensures { result ≡ accepted self }
     {

@@ -72,9 +72,11 @@ impl Carrier for Mailbox {
 
     ghost adds = { λ s f t p. Waiting.adds (slots_of s) (slots_of t) f p };
 
-    ghost gives = { λ s n r t p. subst (Gives (held_in (slots_of s)) n) (sym p.0) (Waiting.gives n (slots_of s)) };
+    ghost gives = { λ s n r t p.
+        subst (Gives (held_in (slots_of s)) n) (sym p.0) (Waiting.gives n (slots_of s)) };
 
-    ghost leaves = { λ s n r t p. subst (Leaves (held_in (slots_of s))) (sym (ap held_in p.1)) (Waiting.leaves n (slots_of s)) };
+    ghost leaves = { λ s n r t p.
+        subst (Leaves (held_in (slots_of s))) (sym (ap held_in p.1)) (Waiting.leaves n (slots_of s)) };
 
     fn put(&mut self, octets: &[u8]) {
         if let Some(frame) = legible(octets) {

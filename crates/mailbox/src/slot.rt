@@ -6,8 +6,8 @@ use carrier::datagram::Datagram;
 use carrier::route::Route;
 use elements::node::NodeNumber;
 
-// The first frame of highest stamp put for a pair, and the stamp last given of that pair, 0 for none.
-// That is the number that the promise of order has where nothing was given: an Option would be made 0 again there.
+// The first frame of highest stamp put for a pair, and the stamp last given of that pair, 0 for none. That is
+// the number that the promise of order has where nothing was given: an Option would be made 0 again there.
 // The frame waits while its stamp is the higher: an emptied slot keeps the frame given, and so its pair.
 #[derive(Clone, Copy)]
 pub struct Slot {
@@ -56,8 +56,8 @@ impl Slot {
         self.frame.destination() == node && self.waits()
     }
 
-    // With this frame of its pair, if its stamp is higher. What was given stays here until then, so a frame whose
-    // stamp is not above the last given is lost.
+    // With this frame of its pair, if its stamp is higher. What was given stays here until then, so a frame
+    // whose stamp is not above the last given is lost.
     pub(crate) fn renewed(self, frame: Datagram) -> Slot
         ensures { result ≡ renewed frame self }
     {

@@ -17,7 +17,8 @@ pub(crate) struct Writer<'a> {
 
 impl Writer<'_> {
     ghost use Rattle.elements.specs.Areas.{element_of};
-    ghost use Rattle.elements.specs.Spelling.{imsi_element, octet_element, area_element, tmsi_element, channel_element};
+    ghost use Rattle.elements.specs.Spelling.{imsi_element, octet_element, area_element, tmsi_element};
+    ghost use Rattle.elements.specs.Spelling.{channel_element};
     ghost use Rattle.elements.specs.Table.{identifier_of};
     ghost use Rattle.messages.specs.Lawful.{lawful_mobile};
     ghost use Rattle.messages.specs.Writing.{HasRoom, Puts};
@@ -36,7 +37,8 @@ impl Writer<'_> {
     fn element(&mut self, element: Element, contents: &[u8])
         requires count { length contents.now < 256 }
         requires room { HasRoom self.old (2 + length contents.now) }
-        ensures { Puts (2 + length contents.now) (identifier_of element ∷ length contents.now ∷ contents.now) self.old self.new }
+        ensures { Puts (2 + length contents.now)
+            (identifier_of element ∷ length contents.now ∷ contents.now) self.old self.new }
     {
         self.put(&[element.identifier(), contents.len() as u8]);
         self.put(contents);

@@ -1,6 +1,7 @@
 // Octets to messages.
 ghost use Rattle.std.specs.Prelude.{◌≡◌, ◌+◌, drop, IfOk, OnOk};
-ghost use Rattle.messages.specs.Reading.{after_imsi, mobile_at, last_at, paging_at, lu_request_at, lu_accept_at, kind_at, message_at, ReadsExactly};
+ghost use Rattle.messages.specs.Reading.{after_imsi, mobile_at, last_at, paging_at, lu_request_at};
+ghost use Rattle.messages.specs.Reading.{lu_accept_at, kind_at, message_at, ReadsExactly};
 
 use crate::kind::MessageType;
 use crate::message::Message;

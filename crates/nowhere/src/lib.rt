@@ -1,5 +1,5 @@
-// A carrier that keeps nothing. It is lawful: what a carrier means says nothing of arrival. So whatever is proved
-// over every carrier, and over every carrier in order, is proved over this one too.
+// A carrier that keeps nothing. It is lawful: what a carrier means says nothing of arrival. So whatever is
+// proved over every carrier, and over every carrier in order, is proved over this one too.
 #![tactic(auto)]
 
 ghost use Rattle.std.specs.Prelude.{◌≡◌, [], None as Nothing, refl};
@@ -43,5 +43,6 @@ impl InOrder for Nowhere {
 
     ghost still = { λ s f t p a b. refl };
 
-    ghost moves = { λ s n r t nothing. subst (λ o. Moves (λ _ _. 0) o (λ _ _. 0)) (sym nothing) (λ a b. refl) };
+    ghost moves = { λ s n r t nothing.
+        subst (λ o. Moves (λ _ _. 0) o (λ _ _. 0)) (sym nothing) (λ a b. refl) };
 }

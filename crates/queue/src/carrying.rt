@@ -38,7 +38,8 @@ impl Carrier for Queue {
     ghost puts = { λ s f t. frames_of t ≡ added f (frames_of s) };
 
     // The node's oldest frame, which no longer waits.
-    ghost takes = { λ s n r t. (r ≡ first_for n (frames_of s)) × (frames_of t ≡ without_first n (frames_of s)) };
+    ghost takes = { λ s n r t. (r ≡ first_for n (frames_of s))
+        × (frames_of t ≡ without_first n (frames_of s)) };
 
     ghost adds = { λ s f t p. subst (Adds (frames_of s) f) (sym p) (Laws.adds f (frames_of s)) };
 

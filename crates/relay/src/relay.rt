@@ -10,7 +10,8 @@ use queue::queue::Queue;
 use slip::carrying::Slip;
 use std::alloc::{AllocError, Global};
 
-// An enum, not a boxed dyn carrier, which no function may hand out; and a trait's impls would be longer than three matches.
+// An enum, not a boxed dyn carrier, which no function may hand out; and a trait's impls
+// would be longer than three matches.
 #[derive(Drop)]
 pub(crate) enum Relay {
     Queue(Queue),
@@ -21,7 +22,8 @@ pub(crate) enum Relay {
     Nowhere(Nowhere),
 }
 
-// The frames that wait in a mailbox. A slot keeps its frame when it is given, and then the frame does not wait.
+// The frames that wait in a mailbox. A slot keeps its frame when it is given,
+// and then the frame does not wait.
 fn held(heap: Global, mailbox: &Mailbox) -> Result<Vec<Datagram>, AllocError> {
     mailbox
         .slots

@@ -24,7 +24,8 @@ impl Sgsn {
 
     // Ticks until the verdict is there. No tick is denied before, since a worn SGSN has its verdict.
     fn wait<C: InOrder>(&mut self, carrier: &mut C, reply: &Reply)
-        ensures { Waited C.Carrier.puts reply.now (state_of self.old) carrier.old (state_of self.new) carrier.new }
+        ensures { Waited C.Carrier.puts reply.now
+            (state_of self.old) carrier.old (state_of self.new) carrier.new }
     {
         while self.is_awaited(reply) {
             let _ = self.tick(carrier);

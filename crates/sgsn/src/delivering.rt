@@ -31,7 +31,8 @@ impl Sgsn {
         change_each(&mut self.places, self.held, &DoubtAt { vlr });
     }
 
-    // Takes a RESET from this VLR, the one at `i`: it is sure of no mobile, and is told later that the RESET came.
+    // Takes a RESET from this VLR, the one at `i`: it is sure of no mobile, and is
+    // told later that the RESET came.
     fn take_reset(&mut self, i: usize, peer: Peer, frame: Frame)
         requires { SentBy frame i peer (state_of self.old).peers }
         ensures { state_of self.new ≡ reset_by (state_of self.old) frame peer }

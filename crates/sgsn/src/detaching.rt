@@ -13,7 +13,8 @@ use imsi::Imsi;
 use station::denial::Denial;
 
 impl Sgsn {
-    // Detaches a mobile in the way with this code. A reply is owed to the mobile from now on, which its record keeps.
+    // Detaches a mobile in the way with this code. A reply is owed to the mobile from
+    // now on, which its record keeps.
     pub fn open_detach<C: InOrder>(
         &mut self,
         carrier: &mut C,

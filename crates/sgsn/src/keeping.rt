@@ -45,7 +45,8 @@ impl Sgsn {
         requires stamps { HasStamps 1 self.old.sender }
         requires may { list_all (may_go self.old.sender.own) (outgoing_in outgoing) ≡ true }
         ensures state { state_of self.new ≡ with_sent (state_of self.old) context (outgoing_in outgoing) }
-        ensures sent { Sent C.Carrier.puts self.old.sender.own self.old.sender.last (outgoing_in outgoing) carrier.old carrier.new }
+        ensures sent { Sent C.Carrier.puts self.old.sender.own self.old.sender.last
+            (outgoing_in outgoing) carrier.old carrier.new }
     {
         self.keep(context);
         if let Some(message) = outgoing {

@@ -5,8 +5,9 @@ ghost use Rattle.sgsn.specs.Replies.{reply_to, owed_by, owed_to};
 use elements::node::{NodeNumber, SgsnNumber};
 use imsi::Imsi;
 
-// Which SGSN owes it, and which mobile is to have it: the mobile's number by its digits and its value.
-// Whoever has one can hand it on, but not copy it or let it go: only the SGSN that owes it takes it back, when it is settled.
+// Which SGSN owes it, and which mobile is to have it: the mobile's number by its digits and its
+// value. Whoever has one can hand it on, but not copy it or let it go: only the SGSN that owes it
+// takes it back, when it is settled.
 #[derive(Debug)]
 pub struct Reply {
     sgsn: u8,

@@ -12,8 +12,8 @@ use imsi::Imsi;
 use station::denial::Denial;
 
 impl Sgsn {
-    // The verdict for the mobile with this record, and the record when nothing is owed any more. A worn SGSN hears of no
-    // other verdict than that the VLR did not respond: what is open expires for the last time.
+    // The verdict for the mobile with this record, and the record when nothing is owed any more. A worn SGSN
+    // hears of no other verdict than that the VLR did not respond: what is open expires for the last time.
     fn verdict_for(&self, context: Context) -> Result<(Verdict, Context), Denial>
         ensures { result ≡ settle_move (is_worn self.now.sender.last) context.errand context }
     {

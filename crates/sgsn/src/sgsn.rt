@@ -15,9 +15,9 @@ pub const VLRS: usize = 4;
 // So many mobiles have a place.
 pub const PLACES: usize = 1024;
 
-// The first `count` of `peers` are its VLRs, in rising number, and the first `held` of `places` are records, in rising
-// order of their mobiles. The SGSN owns the places, so that no memory is wanted later. Its number and its VLRs' are lawful
-// and different. Each record is sound and names no VLR but these.
+// The first `count` of `peers` are its VLRs, in rising number, and the first `held` of `places` are records,
+// in rising order of their mobiles. The SGSN owns the places, so that no memory is wanted later. Its number
+// and its VLRs' are lawful and different. Each record is sound and names no VLR but these.
 #[derive(Drop)]
 pub struct Sgsn {
     pub sender: Sender,

@@ -66,8 +66,9 @@ impl fmt::Display for Made {
 }
 
 impl Place {
-    // Over a net in which nothing waits yet. All calls of the shift are made by `make` below, at this one site, and nothing else
-    // changes it: so the law of the site's tables, which `Site::make` promises, holds at each line that is shown.
+    // Over a net in which nothing waits yet. All calls of the shift are made by `make` below, at this one
+    // site, and nothing else changes it: so the law of the site's tables, which `Site::make` promises,
+    // holds at each line that is shown.
     pub(crate) fn new(heap: Global, numbers: &Numbers, script: &[u8]) -> Result<Place, SiteError> {
         let slip = Slip::new(heap, script)?;
         let carrier = Gate::new(Watched::new(heap, slip));

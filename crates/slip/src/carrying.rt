@@ -25,8 +25,8 @@ pub struct Slip {
     pub script: Script,
 }
 
-// One take of the queue, as the mode says. A match, since the script says modes by numbers: closures would stand in a
-// table under the same numbers.
+// One take of the queue, as the mode says. A match, since the script says modes by numbers: closures would
+// stand in a table under the same numbers.
 fn take_by(queue: &mut Queue, mode: Mode, node: NodeNumber) -> Option<Datagram>
     ensures answer { carried result ≡ answer_by mode node (frames_of queue.old) }
     ensures left { frames_of queue.new ≡ left_by mode node (frames_of queue.old) }
@@ -55,16 +55,23 @@ impl Slip {
 impl Carrier for Slip {
     ghost waiting = { λ s. frames_of s.queue };
 
-    ghost puts = { λ s f t. (frames_of t.queue ≡ added f (frames_of s.queue)) × (octets_left t.script ≡ octets_left s.script) };
+    ghost puts = { λ s f t. (frames_of t.queue ≡ added f (frames_of s.queue))
+        × (octets_left t.script ≡ octets_left s.script) };
 
     // The mode is that of the next octet of the script, which is spent.
-    ghost takes = { λ s n r t. (r ≡ answer_by (mode_of (slice_index (octets_left s.script) 0)) n (frames_of s.queue)) × (frames_of t.queue ≡ left_by (mode_of (slice_index (octets_left s.script) 0)) n (frames_of s.queue)) × (octets_left t.script ≡ drop 1 (octets_left s.script)) };
+    ghost takes = { λ s n r t.
+        (r ≡ answer_by (mode_of (slice_index (octets_left s.script) 0)) n (frames_of s.queue))
+        × (frames_of t.queue ≡ left_by (mode_of (slice_index (octets_left s.script) 0)) n (frames_of s.queue))
+        × (octets_left t.script ≡ drop 1 (octets_left s.script)) };
 
-    ghost adds = { λ s f t p. subst (Adds (frames_of s.queue) f) (sym p.0) (Laws.adds f (frames_of s.queue)) };
+    ghost adds = { λ s f t p.
+        subst (Adds (frames_of s.queue) f) (sym p.0) (Laws.adds f (frames_of s.queue)) };
 
-    ghost gives = { λ s n r t p. subst (Gives (frames_of s.queue) n) (sym p.0) (ProofsLaws.gives (mode_of (slice_index (octets_left s.script) 0)) n (frames_of s.queue)) };
+    ghost gives = { λ s n r t p. subst (Gives (frames_of s.queue) n) (sym p.0)
+        (ProofsLaws.gives (mode_of (slice_index (octets_left s.script) 0)) n (frames_of s.queue)) };
 
-    ghost leaves = { λ s n r t p. subst (Leaves (frames_of s.queue)) (sym p.1) (ProofsLaws.leaves (mode_of (slice_index (octets_left s.script) 0)) n (frames_of s.queue)) };
+    ghost leaves = { λ s n r t p. subst (Leaves (frames_of s.queue)) (sym p.1)
+        (ProofsLaws.leaves (mode_of (slice_index (octets_left s.script) 0)) n (frames_of s.queue)) };
 
     fn put(&mut self, octets: &[u8]) {
         self.queue.put(octets);

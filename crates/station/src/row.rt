@@ -10,8 +10,8 @@ const REPEATS: u8 = 3;
 // A RESET taken is acknowledged after so many ticks.
 const ACKNOWLEDGE_TICKS: u8 = 2;
 
-// The timer of a RESET that nobody acknowledged yet. Spent repeats do not end recovery: `repeats` is 0 then, and
-// `ticks` run down to 0.
+// The timer of a RESET that nobody acknowledged yet. Spent repeats do not end recovery: `repeats` is 0
+// then, and `ticks` run down to 0.
 #[derive(Clone, Copy, Debug, PartialEq, Eq)]
 pub struct Recovery {
     // ticks left until the RESET is repeated; a spent timer stays at 0

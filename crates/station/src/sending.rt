@@ -21,8 +21,8 @@ pub struct Outgoing {
     pub message: Message,
 }
 
-// An end as it sends: its number, and the stamp that it sent last. Not Copy, so that no stamp is taken twice by mistake.
-// Whatever is lent a sender says that its number stays: no type fixes one field of what is lent.
+// An end as it sends: its number, and the stamp that it sent last. Not Copy, so that no stamp is taken twice
+// by mistake. Whatever is lent a sender says that its number stays: no type fixes one field of what is lent.
 #[derive(Debug, Drop, PartialEq, Eq)]
 pub struct Sender {
     pub own: NodeNumber,
@@ -36,12 +36,14 @@ impl Sender {
         self.last > WORN_ABOVE
     }
 
-    // Sends one frame with the next stamp, and answers that stamp. What may not go is not put, and takes a stamp too.
+    // Sends one frame with the next stamp, and answers that stamp. What may not go is
+    // not put, and takes a stamp too.
     pub fn send<C: InOrder>(&mut self, carrier: &mut C, outgoing: Outgoing) -> u32
         ensures stamp { HasStamps 1 self.old → result ≡ self.old.last + 1 }
         ensures own { self.new.own ≡ self.old.own }
         ensures last { self.new.last ≡ result }
-        ensures sent { HasStamps 1 self.old → may_go self.old.own outgoing ≡ true → Sent C.Carrier.puts self.old.own self.old.last (outgoing ∷ []) carrier.old carrier.new }
+        ensures sent { HasStamps 1 self.old → may_go self.old.own outgoing ≡ true
+            → Sent C.Carrier.puts self.old.own self.old.last (outgoing ∷ []) carrier.old carrier.new }
         ensures unsent { may_go self.old.own outgoing ≡ false → carrier.new ≡ carrier.old }
     {
         self.last = self.last.saturating_add(1);

@@ -33,8 +33,8 @@ fn acknowledgement(own: NodeNumber, peer: NodeNumber, answers: u32) -> Outgoing
     }
 }
 
-// Sender, carrier and peer stay parameters: the carrier is lent to each end in turn, and an end has several peers, so
-// that a struct of them would be made anew for each call.
+// Sender, carrier and peer stay parameters: the carrier is lent to each end in turn, and an end has several
+// peers, so that a struct of them would be made anew for each call.
 impl Row {
     // Tells the peer of a loss here: recovery begins.
     pub fn lose<C: InOrder>(&mut self, sender: &mut Sender, carrier: &mut C, peer: NodeNumber)

@@ -11,7 +11,8 @@ use crate::sending::Sender;
 use carrier::carrier::Carrier;
 use carrier::in_order::InOrder;
 
-// A record with a timer. `ticked n r` is the record r after a tick where the last stamp was n, and `sends r` what that sends.
+// A record with a timer. `ticked n r` is the record r after a tick where the last stamp was n,
+// and `sends r` what that sends.
 pub trait Timed: Copy {
     ghost ticked: { ℕ → Self → Self };
 
@@ -28,8 +29,8 @@ pub trait Timed: Copy {
     ghost few: { (r : Self) → length (sends r) ≤ 1 };
 }
 
-// What an end keeps of one of its peers, beside records of mobiles. A tick can send a RESET again, and `doubts` is what
-// that makes of the records.
+// What an end keeps of one of its peers, beside records of mobiles. A tick can send a RESET again, and
+// `doubts` is what that makes of the records.
 pub trait TimedPeer<R> {
     ghost node: { Self → Node };
 

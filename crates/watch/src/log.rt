@@ -17,8 +17,8 @@ pub enum Sighting {
     },
 }
 
-// What was seen, the earliest first, and how often there was no memory to keep it. What is missed is counted, since a carrier
-// must not fail for being watched.
+// What was seen, the earliest first, and how often there was no memory to keep it. What is missed is counted,
+// since a carrier must not fail for being watched.
 #[derive(Drop)]
 pub struct Log {
     pub sightings: Vec<Sighting>,

@@ -43,7 +43,8 @@ fn octet(high: u8, low: u8) -> Result<u8, BadLine>
 
 // The octets of a line, in either case of letters. Blanks may stand before, between and after octets.
 pub fn octets_in_line(line: &[u8]) -> Result<LineOctets, BadLine>
-    ensures { MatchResult result (λ v. octets_in 128 line.now ≡ Ok (octets_of v)) (λ e. octets_in 128 line.now ≡ Err e) }
+    ensures { MatchResult result
+        (λ v. octets_in 128 line.now ≡ Ok (octets_of v)) (λ e. octets_in 128 line.now ≡ Err e) }
 {
     let mut octets = ArrayVec::new();
     let mut rest = line;
