@@ -1,4 +1,5 @@
-// One site as its tables and its carrier show it: the calls that can be made there, and what holds after any of them.
+// One site as its tables and its carrier show it: the calls that can be made there, and what holds after any
+// of them.
 #![tactic(auto)]
 
 pub mod call;

@@ -43,7 +43,8 @@ impl From<AllocError> for SiteError {
 // The VLRs, each made for this SGSN.
 fn registers(heap: Global, number: SgsnNumber, peers: &[Peer]) -> Result<Vec<Vlr>, SiteError>
     ensures made { IfOk result (λ vs. states_of vs.items ≡ map (λ p. new_state p.vlr number) peers.now) }
-    ensures only_memory { list_all (λ p. lawful_nodes number.node p.vlr.node) peers.now ≡ true → IfErr result IsMemory }
+    ensures only_memory { list_all (λ p. lawful_nodes number.node p.vlr.node) peers.now ≡ true
+        → IfErr result IsMemory }
 {
     let mut vlrs = Vec::with_capacity(heap, VLRS)?;
     for peer in peers {

@@ -74,10 +74,12 @@ impl<C: InOrder> Site<C> {
         }
     }
 
-    // One call, whichever it is. The law: however the site came to be so from a new one, it holds after this call, too.
+    // One call, whichever it is. The law: however the site came to be so from a new one, it holds after this
+    // call, too.
     pub fn make(&mut self, call: Call) -> Answer
         ensures step { Step C.Carrier.takes C.Carrier.puts call result (view_of self.old) (view_of self.new) }
-        ensures law { (es : Events) → Came C.Carrier.waiting C.Carrier.takes C.Carrier.puts es (view_of self.old)
+        ensures law { (es : Events)
+            → Came C.Carrier.waiting C.Carrier.takes C.Carrier.puts es (view_of self.old)
             → Law ((call, result) ∷ es) (view_of self.new) }
     {
         self.step(call)

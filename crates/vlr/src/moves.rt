@@ -49,8 +49,8 @@ fn detach_answer(imsi: Imsi, detach: ImsiDetachType) -> Option<Message>
     }
 }
 
-// The record after a message from this SGSN, and the message that answers it. The record before is that of the
-// mobile that the message is about, if one is held.
+// The record after a message from this SGSN, and the message that answers it. The record before is that of
+// the mobile that the message is about, if one is held.
 pub fn message_move(
     before: Option<Record>,
     sgsn: SgsnNumber,

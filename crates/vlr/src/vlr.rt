@@ -13,9 +13,9 @@ use station::sending::Sender;
 // So many mobiles have a place.
 pub const PLACES: usize = 1024;
 
-// The first `held` of `places` are records, in rising order of their mobiles. The register owns the places, so
-// that no memory is wanted later. Its number and its SGSN's are lawful and different, and no mark names another
-// SGSN.
+// The first `held` of `places` are records, in rising order of their mobiles. The register owns the places,
+// so that no memory is wanted later. Its number and its SGSN's are lawful and different, and no mark names
+// another SGSN.
 #[derive(Drop)]
 pub struct Vlr {
     pub sender: Sender,
