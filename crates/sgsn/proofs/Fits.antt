@@ -20,8 +20,6 @@ use Rattle.station.specs.declared.row.Row.{Row}
 use Rattle.station.specs.Sends.{may_go, outgoing_in}
 use Rattle.context.specs.declared.class.ServiceClass.{ServiceClass}
 use Rattle.context.specs.declared.context.Context.{Context}
-use Rattle.context.specs.declared.errand.Errand.TheVariants as errand
-use Rattle.context.specs.declared.errand.Open.{Open}
 use Rattle.context.specs.declared.kind.Request.{Request}
 use Rattle.context.specs.declared.kind.RequestKind.{RequestKind}
 use Rattle.context.specs.declared.kind.DetachKind.{DetachKind}
@@ -31,7 +29,7 @@ use Rattle.context.specs.Requesting.{requested}
 use Rattle.context.specs.Detaching.{detached}
 use Rattle.context.specs.Answering.{answered}
 use Rattle.context.specs.Paging.{paged}
-use Rattle.context.specs.Ticking.{expired, context_ticked, context_sends}
+use Rattle.context.specs.Ticking.{context_ticked, context_sends}
 use Rattle.sgsn.specs.declared.peer.Peer.{Peer}
 use Rattle.sgsn.specs.Fitting.{is_one_of, fits_in}
 use Rattle.station.specs.Rows.{repeat_now}
@@ -59,9 +57,6 @@ fits_doubtful vs r f = grind (arith, nat_tests)
 
 pub fits_doubtful_at : (vs : List VlrNumber) (v : VlrNumber) (r : Context) → fits_in vs r ≡ true → fits_in vs (doubtful_at v r) ≡ true
 fits_doubtful_at vs v r f = grind (arith, nat_tests)
-
-pub fits_expired : (vs : List VlrNumber) (o : Open) (r : Context) → r.errand ≡ errand.Open o → fits_in vs r ≡ true → fits_in vs (expired o r) ≡ true
-fits_expired vs o r e f = grind (arith, nat_tests)
 
 pub fits_settled : (vs : List VlrNumber) (r : Context) → fits_in vs r ≡ true → fits_in vs (settled r) ≡ true
 fits_settled vs r f = grind (arith, nat_tests)

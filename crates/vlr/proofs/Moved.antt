@@ -1,6 +1,6 @@
 -- What a message makes of a record that is held, and what answers it, each by itself; and what a frame does, by that.
 use Rattle.std.proofs.Common.{◌≡◌, ℕ, ◌+◌, Bool, true, false, if◌then◌else◌, ◌==◌, cond, length, Some, None, Option, refl, ap, arith}
-use Rattle.std.proofs.lemmas.Bool.{cond-true, cond-false}
+use Rattle.std.proofs.lemmas.Bool.{cond-true}
 use Rattle.std.specs.Option.{option_map}
 use Rattle.imsi.specs.declared.Imsi.{Imsi}
 use Rattle.elements.specs.declared.area.LocationArea.{LocationArea}
@@ -9,7 +9,6 @@ use Rattle.frames.specs.declared.frame.Frame.{Frame}
 use Rattle.messages.specs.declared.message.Message.{Message}
 use Rattle.messages.specs.declared.message.Message.TheVariants.{PagingFailure, MobileStatus, LuRequest, LuAccept, LuReject, Reset, ResetAcknowledge, GprsDetachIndication, GprsDetachAcknowledge, ImsiDetachIndication}
 use Rattle.station.specs.declared.receiving.Delivery.TheVariants as order
-use Rattle.station.specs.Calls.{quietly}
 use Rattle.station.specs.Receiving.{is_from}
 use Rattle.vlr.specs.declared.record.Record.{Record}
 use Rattle.vlr.specs.Records.{confirmed, unmarked, imsi_detached}
@@ -65,12 +64,9 @@ pub move_is : (n : SgsnNumber) (m : Message) (o : Option Record) → message_mov
 move_is n m None = move_none n m
 move_is n m (Some r) = move_held n m r
 
--- a frame of the SGSN's, and any other
+-- a frame of the SGSN's
 pub plan_from : (s : State) (f : Frame) → is_from s.sgsn.node f ≡ true → frame_plan s f ≡ taken_by s f f.message
 plan_from s f e = cond-true _ _ _ e
-
-pub plan_other : (s : State) (f : Frame) → is_from s.sgsn.node f ≡ false → frame_plan s f ≡ quietly s
-plan_other s f e = cond-false _ _ _ e
 
 -- whatever the message is, this goes out
 pub taken_sends : (s : State) (f : Frame) (m : Message) → (taken_by s f m).sends ≡ deliver.answer_to s f (answer_to (noted s m) m)
