@@ -1,5 +1,5 @@
 -- A tick of a record sends one frame at most.
-use Rattle.std.specs.Prelude.{◌≡◌, ℕ, ◌≤◌, Bool, true, false, if◌then◌else◌, List, [], ◌∷◌, length, nat_le, ◌==◌, refl}
+use Rattle.std.specs.Prelude.{◌≡◌, ◌≤◌, Bool, true, false, if◌then◌else◌, List, [], length, nat_le, ◌==◌, refl}
 use Rattle.std.proofs.lemmas.Bool.{leb-true}
 use Rattle.station.specs.declared.sending.Outgoing.{Outgoing}
 use Rattle.context.specs.declared.context.Context.{Context}

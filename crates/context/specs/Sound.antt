@@ -9,7 +9,7 @@ use Rattle.context.specs.declared.errand.Errand.{Errand}
 use Rattle.context.specs.declared.errand.Errand.TheVariants as errand
 use Rattle.context.specs.declared.errand.Open.{Open}
 use Rattle.context.specs.declared.errand.Awaited.{Awaited}
-use Rattle.context.specs.declared.errand.Awaited.TheVariants.{Update, GprsDetach, ImsiDetach}
+use Rattle.context.specs.declared.errand.Awaited.TheVariants.{Update}
 use Rattle.context.specs.Errands.{is_open}
 use Rattle.context.specs.Contexts.{has_voice}
 use Rattle.context.specs.Ticking.{ticks_left}

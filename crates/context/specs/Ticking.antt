@@ -9,7 +9,7 @@ use Rattle.context.specs.declared.errand.Errand.TheVariants as errand
 use Rattle.context.specs.declared.errand.Verdict.TheVariants as verdict
 use Rattle.context.specs.declared.errand.Open.{Open}
 use Rattle.context.specs.declared.errand.Awaited.{Awaited}
-use Rattle.context.specs.declared.errand.Awaited.TheVariants.{Update, GprsDetach, ImsiDetach}
+use Rattle.context.specs.declared.errand.Awaited.TheVariants.{GprsDetach}
 
 -- with nothing changed but its errand
 abbrev pub with_errand : Errand → Context → Context

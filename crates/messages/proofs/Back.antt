@@ -13,7 +13,7 @@ use Rattle.elements.specs.Reading.{coded_at, tmsi_at, channel_at, area_at, after
 use Rattle.elements.specs.Spelling.{imsi_element, octet_element, area_element, tmsi_element, channel_element}
 use Rattle.elements.specs.Table.{least_of, most_of}
 use Rattle.elements.proofs.Areas.{area_read}
-use Rattle.elements.proofs.Chains.{then_ok, same_ok, fault_ok}
+use Rattle.elements.proofs.Chains.{then_ok, same_ok}
 use Rattle.elements.specs.Backs.{cause_back, update_back, class_back, gprs_back, imsi_back, reject_back, entity_back}
 use Rattle.elements.proofs.Elements.{coded_read}
 use Rattle.elements.proofs.Optional.{tmsi_read, channel_read}

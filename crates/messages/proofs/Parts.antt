@@ -1,11 +1,10 @@
 -- The parts that messages share: the type octet, the IMSI, one coded element at the end, alone and after an IMSI.
-use Rattle.std.proofs.Common.{◌≡◌, ℕ, ◌+◌, ◌/◌, true, cond, eqb, ltb, List, [], ◌∷◌, ◌++◌, length, get_or, drop, Some, Ok, Option, Result, sym, refl, ap, ◌∙◌, subst, ⊎_elim, append-nil, add-zero, arith}
+use Rattle.std.proofs.Common.{◌≡◌, ℕ, ◌+◌, ◌/◌, true, ltb, List, [], ◌∷◌, ◌++◌, length, get_or, drop, Some, Ok, Option, sym, refl, ap, ◌∙◌, subst, ⊎_elim, append-nil, add-zero, arith}
 use Rattle.std.proofs.lemmas.List.{length-drop, drop_all, drop_more}
-use Rattle.std.proofs.lemmas.Bool.{cond-true, cond-false, lt-ltb, le-ltb, ltb-false, ltb-true, eqb-true, cases_Bool}
+use Rattle.std.proofs.lemmas.Bool.{cond-true, cond-false, lt-ltb, le-ltb, ltb-false, ltb-true, cases_Bool}
 use Rattle.imsi.specs.declared.Imsi.{Imsi}
 use Rattle.imsi.proofs.Spelt.{length-octets}
 use Rattle.elements.specs.declared.element.Element.{Element}
-use Rattle.elements.specs.declared.fault.Fault.{Fault}
 use Rattle.elements.specs.Reading.{coded_at, imsi_at, end_at}
 use Rattle.elements.specs.Spelling.{imsi_element, octet_element}
 use Rattle.elements.specs.Table.{least_of, most_of}

@@ -6,10 +6,10 @@ use Rattle.imsi.specs.declared.Imsi.{Imsi}
 use Rattle.imsi.proofs.Round.{lawful_parts}
 use Rattle.elements.specs.declared.element.Element.{Element}
 use Rattle.elements.specs.declared.element.Element.TheVariants as el
-use Rattle.elements.specs.Codes.{cause_octet, update_octet, class_octet, gprs_detach_octet, imsi_detach_octet}
+use Rattle.elements.specs.Codes.{update_octet, class_octet}
 use Rattle.elements.specs.Spelling.{imsi_element, octet_element, area_element, tmsi_element, channel_element}
 use Rattle.messages.specs.declared.message.Message.{Message}
-use Rattle.messages.specs.declared.message.Message.TheVariants.{Paging, PagingFailure, MobileStatus, LuRequest, LuAccept, LuReject, Reset, ResetAcknowledge, GprsDetachIndication, GprsDetachAcknowledge, ImsiDetachIndication, ImsiDetachAcknowledge}
+use Rattle.messages.specs.declared.message.Message.TheVariants.{Paging, LuRequest, LuAccept, LuReject}
 use Rattle.messages.specs.Lawful.{lawful_mobile, lawful_area, lawful_reject, lawful_message}
 use Rattle.messages.specs.Spelling.{octets_of}
 use Rattle.messages.proofs.Parts.{imsi_size}

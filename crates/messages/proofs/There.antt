@@ -6,8 +6,6 @@ use Rattle.elements.specs.declared.area.LocationArea.{LocationArea}
 use Rattle.elements.specs.declared.code.Class.{Class}
 use Rattle.elements.specs.declared.code.UpdateType.{UpdateType}
 use Rattle.elements.specs.declared.element.Element.TheVariants as el
-use Rattle.elements.specs.declared.node.NodeNumber.{NodeNumber}
-use Rattle.elements.specs.Nodes.{lawful_node}
 use Rattle.elements.specs.Codes.{cause_in, cause_octet, update_in, update_octet, class_in, class_octet, gprs_detach_in, gprs_detach_octet, imsi_detach_in, imsi_detach_octet, reject_in, entity_in}
 use Rattle.elements.specs.Spelling.{imsi_element, octet_element, area_element, tmsi_element, channel_element}
 use Rattle.elements.proofs.Areas.{area_there}

@@ -1,5 +1,5 @@
 -- The type octet that a message begins with.
-use Rattle.std.proofs.Common.{◌≡◌, ℕ, ◌≢◌, cond, eqb, List, [], ◌∷◌, get_or, length, Ok, Err, Some, None, Option, Result, MatchResult, sym, refl, ap, ◌∙◌, ⊎_elim}
+use Rattle.std.proofs.Common.{◌≡◌, ℕ, ◌≢◌, eqb, List, [], ◌∷◌, Ok, Err, Some, None, Option, Result, MatchResult, sym, refl, ap, ◌∙◌, ⊎_elim}
 use Rattle.std.specs.Prelude.{slice_get}
 use Rattle.std.specs.List.{find}
 use Rattle.std.proofs.lemmas.Bool.{cond-true, cond-false, eqb-true, ne_eqb, lt-ltb, cases_Bool}

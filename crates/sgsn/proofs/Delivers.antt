@@ -1,20 +1,19 @@
 -- A frame that one of its VLRs sent is taken; any other has no effect.
-use Rattle.std.proofs.Common.{◌≡◌, ℕ, false, List, Some, None, Ok, Err, Option, Result, sym, refl, ap, ◌∙◌, subst, if◌then◌else◌}
+use Rattle.std.proofs.Common.{◌≡◌, ℕ, false, List, Some, Ok, Err, Option, Result, sym, ap, ◌∙◌, subst, if◌then◌else◌}
 use Rattle.elements.specs.declared.fault.Fault.{Fault}
 use Rattle.elements.specs.declared.node.NodeNumber.{NodeNumber}
 use Rattle.frames.specs.declared.frame.Frame.{Frame}
 use Rattle.station.specs.declared.denial.Denial.TheVariants as denial
 use Rattle.station.specs.declared.receiving.Delivery.{Delivery}
-use Rattle.station.specs.declared.receiving.Delivery.TheVariants as order
 use Rattle.station.specs.declared.receiving.Refusal.{Refusal}
 use Rattle.station.specs.declared.receiving.Refusal.TheVariants.{Denied}
-use Rattle.station.specs.Calls.{Plan, AtOnce, Taking, Done, Does, by_taken}
+use Rattle.station.specs.Calls.{AtOnce, Taking, Done, Does, by_taken}
 use Rattle.station.specs.Receiving.{Received}
 use Rattle.station.specs.Sends.{is_worn}
 use Rattle.sgsn.specs.declared.peer.Peer.{Peer}
 use Rattle.sgsn.specs.Peers.{peer_from}
 use Rattle.sgsn.specs.State.{State, own_of, last_of}
-use Rattle.sgsn.specs.Delivering.{taken_by, taken, frame_plan, delivery}
+use Rattle.sgsn.specs.Delivering.{taken, frame_plan, delivery}
 
 pub read_as : {C : Type 0} (takes : C → NodeNumber → Option (List ℕ) → C → Type 0) (own : NodeNumber) (o : Option (Result Frame Fault)) (r : Result Frame Fault) (f : Frame) (c m : C)
     → o ≡ Some r → r ≡ Ok f → Received takes own o c m → Received takes own (Some (Ok f)) c m

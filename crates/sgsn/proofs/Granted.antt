@@ -12,7 +12,6 @@ use Rattle.context.specs.declared.class.ServiceClass.{ServiceClass}
 use Rattle.context.specs.declared.context.Context.{Context}
 use Rattle.context.specs.declared.errand.Errand.{Errand}
 use Rattle.context.specs.declared.errand.Errand.TheVariants as errand
-use Rattle.context.specs.declared.errand.Open.{Open}
 use Rattle.context.specs.declared.errand.Verdict.{Verdict}
 use Rattle.context.specs.declared.kind.Request.{Request}
 use Rattle.context.specs.declared.kind.RequestKind.{RequestKind}
@@ -20,7 +19,6 @@ use Rattle.context.specs.declared.kind.DetachKind.{DetachKind}
 use Rattle.context.specs.Codes.{class_in, request_kind_in, detach_kind_in, attaches, voice_class}
 use Rattle.context.specs.Contexts.{whose, new_context, attached_now}
 use Rattle.context.specs.Errands.{owes}
-use Rattle.context.specs.Ticking.{expired}
 use Rattle.context.specs.Requesting as request
 use Rattle.context.specs.Detaching as detach
 use Rattle.sgsn.specs.Fitting.{is_one_of}

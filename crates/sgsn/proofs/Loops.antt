@@ -1,8 +1,6 @@
 -- The loop that tells each VLR of a loss.
-use Rattle.std.proofs.Common.{◌≡◌, ℕ, ◌+◌, ◌<◌, List, [], ◌∷◌, ◌++◌, map, length, refl, ap}
+use Rattle.std.proofs.Common.{◌≡◌, ℕ, ◌+◌, List, [], ◌∷◌, refl, ap}
 use Rattle.elements.specs.declared.node.NodeNumber.{NodeNumber}
-use Rattle.frames.specs.Format.{lawful_nodes}
-use Rattle.station.specs.declared.sending.Outgoing.{Outgoing}
 use Rattle.station.specs.Rows.{new_row, lost_row}
 use Rattle.station.specs.Ticks.{reset_to}
 use Rattle.station.specs.Times.{Clock, peer_clock, each_ticked, each_sends}

@@ -5,7 +5,7 @@ use Rattle.std.specs.List.{position, list_all}
 use Rattle.std.proofs.lemmas.Bool.{or_left, or_right}
 use Rattle.std.proofs.lemmas.List.{length-take, get_or-take}
 use Rattle.std.proofs.lemmas.List.Quantifiers.{position-Some}
-use Rattle.std.proofs.lemmas.Option.{none-some, same_Some, slice_get-get_or, get_or_from_slice_get}
+use Rattle.std.proofs.lemmas.Option.{none-some, same_Some, slice_get-get_or}
 use Rattle.carrier.specs.Nodes.{own_node}
 use Rattle.elements.specs.Nodes.{same_node}
 use Rattle.elements.specs.declared.node.NodeNumber.{NodeNumber}

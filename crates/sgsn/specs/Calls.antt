@@ -1,5 +1,5 @@
 -- The calls of an SGSN as values.
-use Rattle.std.specs.Prelude.{◌∷◌, Ok, Result}
+use Rattle.std.specs.Prelude.{Result}
 use Rattle.station.specs.declared.denial.Denial.{Denial}
 use Rattle.station.specs.declared.receiving.Refusal.{Refusal}
 use Rattle.station.specs.declared.receiving.Refusal.TheVariants.{Denied}

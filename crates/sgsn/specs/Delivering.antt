@@ -1,7 +1,6 @@
 -- What a frame does at an SGSN.
-use Rattle.std.specs.Prelude.{◌≡◌, ℕ, Bool, true, if◌then◌else◌, List, [], map, Some, None, Option, Result}
+use Rattle.std.specs.Prelude.{◌≡◌, ℕ, Bool, true, if◌then◌else◌, List, [], map, Some, None, Option}
 use Rattle.imsi.specs.declared.Imsi.{Imsi}
-use Rattle.elements.specs.declared.node.NodeNumber.{NodeNumber}
 use Rattle.frames.specs.declared.frame.Frame.{Frame}
 use Rattle.messages.specs.declared.message.Message.{Message}
 use Rattle.messages.specs.declared.message.Message.TheVariants.{Paging, Reset, ResetAcknowledge}
@@ -9,7 +8,6 @@ use Rattle.messages.specs.Mobiles.{mobile_of}
 use Rattle.station.specs.declared.receiving.Delivery.{Delivery}
 use Rattle.station.specs.declared.receiving.Delivery.TheVariants as order
 use Rattle.station.specs.declared.receiving.Refusal.{Refusal}
-use Rattle.station.specs.declared.sending.Outgoing.{Outgoing}
 use Rattle.station.specs.Calls.{Plan, Course, quietly, delivering}
 use Rattle.station.specs.Sends.{Sent, outgoing_in}
 use Rattle.station.specs.Rows.{reset_taken, acknowledged}

@@ -1,4 +1,4 @@
-use Rattle.std.proofs.Common.{get_or, length, refl, sym, ap, ◌∙◌, subst, arith}
+use Rattle.std.proofs.Common.{get_or, length, refl, ap, ◌∙◌, subst, arith}
 use Rattle.std.proofs.lemmas.List.{length-map}
 use Rattle.station.specs.Sends.{Sent}
 use Rattle.station.specs.Ticks.{reset_to}

@@ -1,9 +1,6 @@
-use Rattle.std.proofs.Common.{sym, subst, ◌∙◌}
 use Rattle.station.specs.declared.receiving.Refusal.TheVariants.{Denied}
-use Rattle.station.specs.Calls.{Does}
 use Rattle.station.proofs.Answering.{done_as, decided_done}
 use Rattle.sgsn.specs.declared.call.SgsnAnswer.TheVariants as answer
-use Rattle.sgsn.specs.Calls.{call_course}
 use Rattle.sgsn.specs.Enrolling.{enrol_plan, attach_plan}
 use Rattle.sgsn.specs.Requesting.{request_plan}
 use Rattle.sgsn.specs.Detaching.{detach_plan}
