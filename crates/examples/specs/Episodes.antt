@@ -12,13 +12,13 @@ use Rattle.station.specs.declared.mark.Mark.{Mark}
 use Rattle.context.specs.declared.context.Context.{Context}
 use Rattle.context.specs.declared.errand.Errand.{Errand}
 use Rattle.context.specs.declared.kind.Request.{Request}
-use Rattle.sgsn.specs.Delivering.{moved_by_frame}
-use Rattle.sgsn.specs.Detaching.{detached}
-use Rattle.sgsn.specs.Enrolling.{enrolled}
+use Rattle.sgsn.specs.Delivering.{frame_plan}
+use Rattle.sgsn.specs.Detaching.{detach_plan}
+use Rattle.sgsn.specs.Enrolling.{enrol_plan}
 use Rattle.sgsn.specs.Making.{new_state}
 use Rattle.sgsn.specs.Recovering.{ticked, tick_sends}
-use Rattle.sgsn.specs.Requesting.{requested}
-use Rattle.sgsn.specs.Settling.{settled}
+use Rattle.sgsn.specs.Requesting.{request_plan}
+use Rattle.sgsn.specs.Settling.{settle_plan}
 use Rattle.sgsn.specs.State.{State, record_at}
 
 abbrev pub sgsn_1 : SgsnNumber
@@ -37,7 +37,7 @@ area = record { octets = 0x62 ∷ 0xF2 ∷ 0x10 ∷ 0x00 ∷ 0x01 ∷ [] }
 abbrev pub begun : State
 begun =
     let new = new_state sgsn_1 (vlr_11 ∷ []) in
-    after_in new (enrolled new mobile 1)
+    after_in new (enrol_plan new mobile 1)
 
 -- a combined attach
 abbrev pub attach : Request
@@ -45,11 +45,17 @@ attach = record { kind = 1; vlr = vlr_11; old_area = area; new_area = area }
 
 -- its LU Request is the first frame that the SGSN puts, and so has stamp 1
 abbrev pub asked : State
-asked = after_in begun (requested begun mobile attach)
+asked = after_in begun (request_plan begun mobile attach)
 
 -- the VLR accepts what that frame asks
 abbrev pub accept : Frame
-accept = record { source = vlr_11.node; destination = sgsn_1.node; stamp = 1; answers = 1; message = LuAccept mobile area }
+accept = record {
+  source = vlr_11.node;
+  destination = sgsn_1.node;
+  stamp = 1;
+  answers = 1;
+  message = LuAccept mobile area;
+}
 
 -- so many ticks later
 abbrev pub later : ℕ → State → State
@@ -58,15 +64,17 @@ later (suc n) s = later n (ticked s)
 
 -- the accept is taken so many ticks after the request
 abbrev pub accepted_after : ℕ → State
-accepted_after n = moved_by_frame (later n asked) accept
+accepted_after n = (frame_plan (later n asked) accept).after
 
 -- the VLR is sure of the mobile, and no reply is owed
 abbrev pub served : State
-served = settled (accepted_after 1) mobile
+served =
+    let accepted = accepted_after 1 in
+    after_in accepted (settle_plan accepted mobile)
 
 -- a detach of this kind, and so many ticks in which no answer comes
 abbrev pub unanswered_for : ℕ → ℕ → State
-unanswered_for k n = later n (after_in served (detached served mobile k))
+unanswered_for k n = later n (after_in served (detach_plan served mobile k))
 
 -- this tick's number for each frame that it sends, and so on for so many ticks
 abbrev pub sending_ticks : ℕ → ℕ → State → List ℕ
@@ -75,7 +83,9 @@ sending_ticks t (suc n) s = map (λ o. t) (tick_sends s) ++ sending_ticks (suc t
 
 -- at which ticks that detach has a frame sent, 0 being the detach itself
 abbrev pub frame_ticks : ℕ → ℕ → List ℕ
-frame_ticks k n = map (λ o. 0) (sends_in (detached served mobile k)) ++ sending_ticks 1 n (after_in served (detached served mobile k))
+frame_ticks k n =
+    map (λ o. 0) (sends_in (detach_plan served mobile k))
+    ++ sending_ticks 1 n (after_in served (detach_plan served mobile k))
 
 -- what an SGSN holds of the mobile: attached or not, its mark, and what became of its request or detach
 abbrev pub Held : Type 0
