@@ -96,25 +96,31 @@ due_in (Some p) = answered_by p.row.due
 abbrev pub due_to : sgsn.State → NodeNumber → Option ℕ
 due_to s n = due_in (peer_of n s.peers)
 
--- What stands between the SGSN and one VLR. `quiet`, `due` and `acknowledged` say when the marks agree: out of recovery, and
--- from the moment on when the SGSN took the VLR's last RESET, so that its acknowledgement may end recovery at any time.
+-- What stands between the SGSN and one VLR. `quiet`, `due` and `acknowledged` say when the marks agree: out of recovery,
+-- and from the moment on when the SGSN took the VLR's last RESET, so that its acknowledgement may end recovery at any time.
 pub record Pair (s : sgsn.State) (v : vlr.State) (ws : List (List ℕ)) (ls : Stamps) : Type 0 where
   pub its : v.sgsn.node ≡ s.own
   pub quiet : v.row.recovery ≡ None → (m : Imsi) → Sure s v.own m → SureBy v m
   pub due : (x : ℕ) → due_to s v.own ≡ Some x → v.row.reset ≡ Some x → (m : Imsi) → Sure s v.own m → SureBy v m
-  pub acknowledged : (f : Frame) → Live ws ls s.own v.own f → is_acknowledgement f.message ≡ true → v.row.reset ≡ Some f.answers → (m : Imsi) → Sure s v.own m → SureBy v m
+  pub acknowledged : (f : Frame) → Live ws ls s.own v.own f → is_acknowledgement f.message ≡ true
+      → v.row.reset ≡ Some f.answers → (m : Imsi) → Sure s v.own m → SureBy v m
   -- what was heard of the VLR's RESETs
   pub heard : v.row.recovery ≡ None → (x : ℕ) → v.row.reset ≡ Some x → x ≤ ls v.own s.own
   pub heard_due : (x : ℕ) → due_to s v.own ≡ Some x → (x ≤ ls v.own s.own) × (x ≤ v.last)
-  pub heard_acknowledged : (f : Frame) → Live ws ls s.own v.own f → is_acknowledgement f.message ≡ true → (f.answers ≤ ls v.own s.own) × (f.answers ≤ v.last)
+  pub heard_acknowledged : (f : Frame) → Live ws ls s.own v.own f → is_acknowledgement f.message ≡ true
+      → (f.answers ≤ ls v.own s.own) × (f.answers ≤ v.last)
   -- nothing on its way takes a mark away that the SGSN is sure of
   pub clear : (m : Imsi) → Sure s v.own m → (f : Frame) → Live ws ls s.own v.own f → harms m f.message ≡ false
   -- an acceptance on its way is still true, or the VLR lost its marks since
-  pub granted : (m : Imsi) (r : ℕ) → asked s v.own m ≡ Some r → is_above (reset_to s v.own) r ≡ true → (f : Frame) → Live ws ls v.own s.own f → accepts m f.message ≡ true → f.answers ≡ r → SureBy v m ⊎ ((x : ℕ) × (v.row.reset ≡ Some x) × (f.stamp < x))
+  pub granted : (m : Imsi) (r : ℕ) → asked s v.own m ≡ Some r → is_above (reset_to s v.own) r ≡ true
+      → (f : Frame) → Live ws ls v.own s.own f → accepts m f.message ≡ true → f.answers ≡ r
+      → SureBy v m ⊎ ((x : ℕ) × (v.row.reset ≡ Some x) × (f.stamp < x))
   -- nothing behind an open request takes the mark away but a RESET that the SGSN remembers
-  pub pending : (m : Imsi) (r : ℕ) → asked s v.own m ≡ Some r → is_above (reset_to s v.own) r ≡ true → (f : Frame) → Live ws ls s.own v.own f → r < f.stamp → harms m f.message ≡ false
+  pub pending : (m : Imsi) (r : ℕ) → asked s v.own m ≡ Some r → is_above (reset_to s v.own) r ≡ true
+      → (f : Frame) → Live ws ls s.own v.own f → r < f.stamp → harms m f.message ≡ false
   -- an acceptance on its way answers what came
-  pub known : (m : Imsi) (f : Frame) → Live ws ls v.own s.own f → accepts m f.message ≡ true → (f.answers ≤ ls s.own v.own) × (f.answers ≤ s.last)
+  pub known : (m : Imsi) (f : Frame) → Live ws ls v.own s.own f → accepts m f.message ≡ true
+      → (f.answers ≤ ls s.own v.own) × (f.answers ≤ s.last)
   -- stamps
   pub down : (f : Frame) → Live ws ls s.own v.own f → f.stamp ≤ s.last
   pub up : (f : Frame) → Live ws ls v.own s.own f → f.stamp ≤ v.last

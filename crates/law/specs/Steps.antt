@@ -42,7 +42,8 @@ module _ {C : Type 0} (takes : C → NodeNumber → Option (List ℕ) → C → 
   pub record SgsnMakes (k : SgsnCall) (a : Answer) (x y : View C) : Type 0 where
     pub result : Result SgsnAnswer Refusal
     pub answered : a ≡ answer.Sgsn result
-    pub made : Does sgsn.own_of sgsn.last_of takes puts (sgsn_call.call_course k x.sgsn) result x.sgsn x.carrier y.sgsn y.carrier
+    pub made : Does sgsn.own_of sgsn.last_of takes puts (sgsn_call.call_course k x.sgsn) result
+        x.sgsn x.carrier y.sgsn y.carrier
     pub vlrs : y.vlrs ≡ x.vlrs
 
   -- the VLR of this number makes the call, and the others and the SGSN stay
@@ -56,7 +57,8 @@ module _ {C : Type 0} (takes : C → NodeNumber → Option (List ℕ) → C → 
     pub number : before.own ≡ n.node
     pub result : Result VlrAnswer Refusal
     pub answered : a ≡ answer.Vlr result
-    pub made : Does vlr.own_of vlr.last_of takes puts (vlr_call.call_course k before) result before x.carrier after y.carrier
+    pub made : Does vlr.own_of vlr.last_of takes puts (vlr_call.call_course k before) result
+        before x.carrier after y.carrier
     pub sgsn : y.sgsn ≡ x.sgsn
 
   abbrev pub AtSgsn : Bool → SgsnCall → Answer → View C → View C → Type 0

@@ -17,7 +17,9 @@ IsMemory (Denied d) = ⊥
 IsMemory (Memory e) = Unit {0}
 
 -- over an empty carrier it is a new one; it is denied where the numbers are not lawful and different, or memory fails
-abbrev pub SiteMade : {C : Type 0} → (C → List (List ℕ)) → SgsnNumber → List VlrNumber → C → Result (Site C) SiteError → Type 0
-SiteMade waiting n vs c (Ok x) = (lawful_numbers n vs ≡ true) × (x.carrier ≡ c) × (Empty (waiting c) → New waiting (view_of x))
+abbrev pub SiteMade : {C : Type 0} → (C → List (List ℕ)) → SgsnNumber → List VlrNumber → C → Result (Site C) SiteError
+    → Type 0
+SiteMade waiting n vs c (Ok x) =
+    (lawful_numbers n vs ≡ true) × (x.carrier ≡ c) × (Empty (waiting c) → New waiting (view_of x))
 SiteMade waiting n vs c (Err (Denied d)) = (lawful_numbers n vs ≡ false) × (d ≡ denial.WrongNumbers)
 SiteMade waiting n vs c (Err (Memory e)) = lawful_numbers n vs ≡ true

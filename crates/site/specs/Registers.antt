@@ -19,11 +19,12 @@ module _ {C : Type 0} (takes : C → NodeNumber → Option (List ℕ) → C → 
 
   -- the one at this place makes it, and the others stay
   abbrev pub OneMakes : VlrCall → Result VlrAnswer Refusal → ℕ → List State → C → List State → C → Type 0
-  OneMakes call r i vs c ws d =
-      (x : State) → Makes call r (slice_index_or vs i x) c (slice_index_or ws i x) d × (ws ≡ slice_set vs i (slice_index_or ws i x))
+  OneMakes call r i vs c ws d = (x : State) →
+      Makes call r (slice_index_or vs i x) c (slice_index_or ws i x) d
+      × (ws ≡ slice_set vs i (slice_index_or ws i x))
 
   -- the one of this number makes it, if it is one of these, whatever the SGSN is
   abbrev pub MadeBy : VlrNumber → VlrCall → Answer → List State → C → List State → C → Type 0
-  MadeBy n call a vs c ws d =
-      (s : sgsn.State) → AtVlr takes puts (is_vlr n vs) n call a
+  MadeBy n call a vs c ws d = (s : sgsn.State) →
+      AtVlr takes puts (is_vlr n vs) n call a
       (record { sgsn = s; vlrs = vs; carrier = c }) (record { sgsn = s; vlrs = ws; carrier = d })
