@@ -1,5 +1,5 @@
 // Octets to frames.
-ghost use Rattle.std.specs.Prelude.{◌≡◌, ◌<◌, length, MatchOption};
+ghost use Rattle.std.specs.Prelude.{◌≡◌, ◌<◌, ◌≤◌, length, MatchOption, IfSome};
 ghost use Rattle.frames.specs.Format.{header_in, header_read, frame_in, ReadsExactly, AlwaysExactly};
 
 use crate::frame::{Frame, Header};
@@ -15,7 +15,8 @@ const LONGEST: usize = 64;
 
 // What stands in front of the message, lawful or not, if there are so many octets.
 pub fn header_in(octets: &[u8]) -> Option<Header>
-    ensures { MatchOption result (length octets.now < 10) (λ h. h ≡ header_in octets.now) }
+    ensures value { MatchOption result (length octets.now < 10) (λ h. h ≡ header_in octets.now) }
+    ensures there { IfSome result (λ _. 10 ≤ length octets.now) }
 {
     if octets.len() < IN_FRAME {
         return None;
