@@ -1,6 +1,6 @@
 // What a request makes of a mobile's record.
 ghost use Rattle.std.specs.Prelude.{◌≡◌};
-ghost use Rattle.context.specs.Requesting.{needs_no_frame, requested};
+ghost use Rattle.context.specs.Requesting.{needs_no_frame, update, requested};
 
 use crate::context::Context;
 use crate::errand::{Awaited, Errand, Open, Verdict};
@@ -19,6 +19,23 @@ impl Context {
         ensures { result ≡ needs_no_frame kind request self }
     {
         kind == RequestKind::ImsiAttach && self.mark == Mark::Confirmed(request.vlr)
+    }
+
+    // What asks the VLR.
+    fn update(self, kind: RequestKind, class: Class, request: Request) -> Outgoing
+        ensures { result ≡ update kind class request self }
+    {
+        Outgoing {
+            to: request.vlr.node,
+            answers: 0,
+            message: Message::LuRequest {
+                imsi: self.imsi,
+                update: kind.update_type(),
+                old_area: request.old_area,
+                new_area: request.new_area,
+                class,
+            },
+        }
     }
 
     // The record after the request, and what goes to the VLR with this stamp, if anything: the mobile
@@ -53,18 +70,6 @@ impl Context {
             errand: Errand::Open(pending),
             ..self.with_mark(Mark::Unsure(request.vlr))
         };
-        let message = Message::LuRequest {
-            imsi: self.imsi,
-            update: kind.update_type(),
-            old_area: request.old_area,
-            new_area: request.new_area,
-            class,
-        };
-        let update = Outgoing {
-            to: request.vlr.node,
-            answers: 0,
-            message,
-        };
-        (asked, Some(update))
+        (asked, Some(self.update(kind, class, request)))
     }
 }
