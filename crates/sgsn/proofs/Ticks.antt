@@ -18,6 +18,7 @@ use Rattle.context.specs.Ticking.{context_ticked, context_sends}
 use Rattle.sgsn.specs.declared.peer.Peer.{Peer}
 use Rattle.sgsn.specs.Peers.{doubted_by, doubted_by_all}
 use Rattle.sgsn.specs.Recovering.{records_ticked, records_sends}
+use Rattle.sgsn.proofs.Keeps.{doubtful_whose}
 
 -- records of the same mobiles rise alike
 pub Climbs_same : {R : Type 0} (w : R → Imsi) (xs ys : List R) → map w ys ≡ map w xs → Climbs w xs → Climbs w ys
@@ -28,9 +29,6 @@ Climbs_same {R} w xs ys e up k d lt =
 
 pub whose_ticked : (last : ℕ) (r : Context) → whose (context_ticked last r) ≡ whose r
 whose_ticked last r = grind (arith, nat_tests)
-
-whose_doubtful : (v : VlrNumber) (r : Context) → whose (doubtful_at v r) ≡ whose r
-whose_doubtful v r = grind (arith, nat_tests)
 
 pub mobiles_ticked : (last : ℕ) (rs : List Context) → map whose (records_ticked last rs) ≡ map whose rs
 mobiles_ticked last [] = refl
@@ -44,7 +42,7 @@ pub mobiles_doubted : (ps : List Peer) (rs : List Context) → map whose (doubte
 mobiles_doubted [] rs = refl
 mobiles_doubted (p ∷ ps) rs =
     mobiles_doubted ps (doubted_by p rs)
-    ∙ cond_both (repeat_now p.row) (map (doubtful_at p.vlr) rs) rs (λ l. map whose l ≡ map whose rs) (λ e. mobiles_map (doubtful_at p.vlr) rs (whose_doubtful p.vlr)) (λ e. refl)
+    ∙ cond_both (repeat_now p.row) (map (doubtful_at p.vlr) rs) rs (λ l. map whose l ≡ map whose rs) (λ e. mobiles_map (doubtful_at p.vlr) rs (doubtful_whose p.vlr)) (λ e. refl)
 
 -- what a mobile's tick sends, if it has a record
 abbrev pub sends_of : Option Context → List Outgoing
@@ -123,7 +121,7 @@ map_id None = refl
 map_id (Some x) = refl
 
 at_doubted : (p : Peer) (rs : List Context) (m : Imsi) (b : Bool) → at whose (cond b (map (doubtful_at p.vlr) rs) rs) m ≡ option_map (λ r. cond b (doubtful_at p.vlr r) r) (at whose rs m)
-at_doubted p rs m true = at-map whose (doubtful_at p.vlr) (whose_doubtful p.vlr) rs m
+at_doubted p rs m true = at-map whose (doubtful_at p.vlr) (doubtful_whose p.vlr) rs m
 at_doubted p rs m false = map_id (at whose rs m)
 
 pub at_doubted_all : (ps : List Peer) (rs : List Context) (m : Imsi) → at whose (doubted_by_all ps rs) m ≡ option_map (doubted_record ps) (at whose rs m)

@@ -1,8 +1,8 @@
--- What a call that hands out another answer, or another reason, does; and where any call leaves the end.
+-- What a call that hands out another answer, or another reason, does.
 use Rattle.std.proofs.Common.{◌≡◌, ℕ, List, [], ◌∷◌, Ok, Err, Option, Result, sym, refl, ap, subst}
 use Rattle.elements.specs.declared.node.NodeNumber.{NodeNumber}
 use Rattle.station.specs.declared.sending.Outgoing.{Outgoing}
-use Rattle.station.specs.Calls.{Plan, plan_with, handed_on, after_in, sends_in, Course, AtOnce, Taking, course_with, Done, Does, Decides}
+use Rattle.station.specs.Calls.{Plan, plan_with, handed_on, Course, AtOnce, Taking, course_with, Done, Does, Decides}
 use Rattle.station.specs.Sends.{Sent}
 
 -- where nothing can be put, nothing is sent
@@ -27,12 +27,3 @@ module _ {V : Type 0} (own : V → NodeNumber) (last : V → ℕ) {C : Type 0} (
   pub decided_done : {T E : Type 0} (p : Result (Plan T V) E) (r : Result T E) (s t : V) (c : C) → Decides own last p r s t → Done own last puts p r s c t c
   decided_done (Err e) r s t c h = (h.0, h.1, refl)
   decided_done (Ok p) r s t c h = (h.0, h.1, subst (λ os. Sent puts (own s) (last s) os c c) (sym (silent (own s) (last s) p.sends h.2)) (refl, refl))
-
-  -- where the end is then, and what went out
-  pub after_done : {T E : Type 0} (p : Result (Plan T V) E) (r : Result T E) (s : V) (c : C) (t : V) (d : C) → Done own last puts p r s c t d → t ≡ after_in s p
-  after_done (Err e) r s c t d h = h.1
-  after_done (Ok p) r s c t d h = h.1
-
-  pub sent_done : {T E : Type 0} (p : Result (Plan T V) E) (r : Result T E) (s : V) (c : C) (t : V) (d : C) → Done own last puts p r s c t d → Sent puts (own s) (last s) (sends_in p) c d
-  sent_done (Err e) r s c t d h = (sym h.2, refl)
-  sent_done (Ok p) r s c t d h = h.2
