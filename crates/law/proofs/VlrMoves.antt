@@ -34,7 +34,8 @@ use Rattle.vlr.specs.Delivering.{noted, taken_by, frame_plan}
 use Rattle.vlr.specs.Enrolling.{enrolled, with_enrolled}
 use Rattle.vlr.specs.Paging.{paged, pages}
 use Rattle.vlr.specs.Recovering.{lost, resets, ticked, tick_sends}
-use Rattle.vlr.specs.Laws.{record_at, by_message}
+use Rattle.vlr.specs.Laws.{by_message}
+use Rattle.vlr.specs.State.{record_at}
 use Rattle.vlr.proofs.Moved.{cause_for, update_answer, answer_to, taken_sends, taken_last, taken_own, taken_sgsn}
 use Rattle.vlr.proofs.ByMobile.{enrolled-at, taken-at}
 use Rattle.directory.specs.Lookup.{at}

@@ -16,10 +16,10 @@ use Rattle.messages.specs.Mobiles.{mobile_of}
 use Rattle.vlr.specs.declared.record.Record.{Record}
 use Rattle.vlr.specs.Records.{doubtful, doubtful_at, confirmed, unmarked, sure_at}
 use Rattle.vlr.specs.Moves.{message_move}
-use Rattle.vlr.specs.State.{State, own_of, last_of, whose}
+use Rattle.vlr.specs.State.{State, own_of, last_of, whose, record_at}
 use Rattle.vlr.specs.Delivering.{found, records_with, taken_by}
 use Rattle.vlr.specs.Enrolling.{enrolled, with_enrolled, enrol_plan}
-use Rattle.vlr.specs.Laws.{record_at, by_message, by_enrolment, of_mobile, unless_denied, ByMobile}
+use Rattle.vlr.specs.Laws.{by_message, by_enrolment, of_mobile, unless_denied, ByMobile}
 use Rattle.vlr.proofs.Granted.{enrol_granted}
 use Rattle.vlr.proofs.Enrolls.{its_own}
 use Rattle.vlr.proofs.Moved.{moved, move_is}

@@ -14,8 +14,7 @@ use Rattle.messages.specs.Mobiles.{mobile_of}
 use Rattle.vlr.specs.declared.record.Record.{Record}
 use Rattle.vlr.specs.Records.{names_its}
 use Rattle.vlr.specs.Moves.{message_move}
-use Rattle.vlr.specs.Laws.{record_at}
-use Rattle.vlr.specs.State.{State, whose}
+use Rattle.vlr.specs.State.{State, whose, record_at}
 use Rattle.vlr.specs.Delivering.{found, noted}
 use Rattle.vlr.proofs.ByMobile.{moved-whose}
 use Rattle.vlr.proofs.Moved.{moved, move_is}

@@ -5,7 +5,7 @@ use Rattle.frames.specs.declared.frame.Frame.{Frame}
 use Rattle.messages.specs.declared.message.Message.{Message}
 use Rattle.messages.specs.declared.message.Message.TheVariants.{Reset, ResetAcknowledge}
 use Rattle.messages.specs.Mobiles.{mobile_of}
-use Rattle.directory.specs.Lookup.{at, stored}
+use Rattle.directory.specs.Lookup.{stored}
 use Rattle.station.specs.declared.receiving.Delivery.{Delivery}
 use Rattle.station.specs.declared.receiving.Delivery.TheVariants as order
 use Rattle.station.specs.declared.receiving.Refusal.{Refusal}
@@ -16,12 +16,12 @@ use Rattle.station.specs.Rows.{reset_taken, acknowledged}
 use Rattle.vlr.specs.declared.record.Record.{Record}
 use Rattle.vlr.specs.Moves.{message_move}
 use Rattle.vlr.specs.Records.{doubtful_at}
-use Rattle.vlr.specs.State.{State, last_of, whose}
+use Rattle.vlr.specs.State.{State, last_of, whose, record_at}
 
 -- the record of the mobile, if there is one
 abbrev pub found : State → Option Imsi → Option Record
 found s None = None
-found s (Some i) = at whose s.records i
+found s (Some i) = record_at s i
 
 -- the record of the mobile that a message is about
 abbrev pub noted : State → Message → Option Record

@@ -2,12 +2,12 @@
 use Rattle.std.specs.Prelude.{ℕ, [], Some, None, Option, Ok, Result}
 use Rattle.imsi.specs.declared.Imsi.{Imsi}
 use Rattle.imsi.specs.Spelling.{lawful_imsi}
-use Rattle.directory.specs.Lookup.{at, fits, stored}
+use Rattle.directory.specs.Lookup.{fits, stored}
 use Rattle.station.specs.declared.denial.Denial.{Denial}
 use Rattle.station.specs.declared.denial.Denial.TheVariants as denial
 use Rattle.vlr.specs.declared.record.Record.{Record}
 use Rattle.vlr.specs.Records.{new_record, with_home_cause}
-use Rattle.vlr.specs.State.{State, whose, with_records}
+use Rattle.vlr.specs.State.{State, whose, record_at, with_records}
 use Rattle.station.specs.Calls.{Plan, plan, ask, unless_worn}
 
 -- this many places
@@ -21,7 +21,7 @@ enrolled i c (Some r) = with_home_cause r c
 
 -- that record stands in its place
 abbrev pub with_enrolled : State → Imsi → ℕ → State
-with_enrolled s i c = with_records s (stored whose (enrolled i c (at whose s.records i)) s.records)
+with_enrolled s i c = with_records s (stored whose (enrolled i c (record_at s i)) s.records)
 
 -- the questions in their order
 abbrev pub enrol_plan : State → Imsi → ℕ → Result (Plan Unit State) Denial

@@ -9,7 +9,6 @@ use Rattle.frames.specs.declared.frame.Frame.{Frame}
 use Rattle.messages.specs.declared.message.Message.{Message}
 use Rattle.messages.specs.declared.message.Message.TheVariants.{Reset}
 use Rattle.messages.specs.Mobiles.{mobile_of}
-use Rattle.directory.specs.Lookup.{at}
 use Rattle.directory.specs.Order.{same}
 use Rattle.station.specs.declared.denial.Denial.{Denial}
 use Rattle.station.specs.Calls.{Plan}
@@ -20,11 +19,7 @@ use Rattle.vlr.specs.Records.{doubtful, doubtful_at}
 use Rattle.vlr.specs.Moves.{message_move}
 use Rattle.vlr.specs.Enrolling.{enrolled, enrol_plan}
 use Rattle.vlr.specs.Recovering.{lose_plan}
-use Rattle.vlr.specs.State.{State, whose}
-
--- the record of a mobile, if it is held
-abbrev pub record_at : State → Imsi → Option Record
-record_at s m = at whose s.records m
+use Rattle.vlr.specs.State.{State, record_at}
 
 -- what becomes of each mobile's record, and of its mark with that
 abbrev pub ByMobile : State → State → (Imsi → Option Record → Option Record) → Type 0
@@ -64,16 +59,19 @@ by_frame s (Some (Err e)) m r = r
 by_frame s (Some (Ok f)) m r = if is_from s.sgsn.node f then by_message s.sgsn f.message m r else r
 
 -- the carrier gave this, and each mobile's record is as that makes it
-pub record GivenByMobile {C : Type 0} (takes : C → NodeNumber → Option (List ℕ) → C → Type 0) (s : State) (c : C) (t : State) : Type 0 where
+pub record GivenByMobile {C : Type 0} (takes : C → NodeNumber → Option (List ℕ) → C → Type 0)
+    (s : State) (c : C) (t : State) : Type 0 where
   pub got : Option (Result Frame Fault)
   pub between : C
   pub received : Received takes s.own got c between
   pub records : ByMobile s t (by_frame s got)
 
 -- where the end is worn, nothing is taken
-abbrev pub TakenByMobile : {C : Type 0} → Bool → (C → NodeNumber → Option (List ℕ) → C → Type 0) → State → C → State → Type 0
+abbrev pub TakenByMobile : {C : Type 0} → Bool → (C → NodeNumber → Option (List ℕ) → C → Type 0)
+    → State → C → State → Type 0
 TakenByMobile true takes s c t = ByMobile s t (λ m r. r)
 TakenByMobile false takes s c t = GivenByMobile takes s c t
 
-abbrev pub DeliversByMobile : {C : Type 0} → (C → NodeNumber → Option (List ℕ) → C → Type 0) → State → C → State → Type 0
+abbrev pub DeliversByMobile : {C : Type 0} → (C → NodeNumber → Option (List ℕ) → C → Type 0)
+    → State → C → State → Type 0
 DeliversByMobile takes s c t = TakenByMobile (is_worn s.last) takes s c t

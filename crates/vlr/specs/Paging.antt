@@ -4,12 +4,11 @@ use Rattle.imsi.specs.declared.Imsi.{Imsi}
 use Rattle.imsi.specs.Spelling.{lawful_imsi}
 use Rattle.messages.specs.declared.message.Message.TheVariants.{Paging}
 use Rattle.messages.specs.Lawful.{lawful_channel}
-use Rattle.directory.specs.Lookup.{at}
 use Rattle.station.specs.declared.denial.Denial.{Denial}
 use Rattle.station.specs.declared.denial.Denial.TheVariants as denial
 use Rattle.station.specs.declared.sending.Outgoing.{Outgoing}
 use Rattle.station.specs.Marks.{is_sure_of}
-use Rattle.vlr.specs.State.{State, whose}
+use Rattle.vlr.specs.State.{State, record_at}
 use Rattle.station.specs.Calls.{Plan, plan, ask, ask_for, unless_worn}
 
 -- one stamp more was taken
@@ -26,6 +25,6 @@ page_plan s i t ch =
     unless_worn s.last
     (ask (lawful_channel ch) denial.UnlistedCode
     (ask (lawful_imsi i.digits i.value) denial.UnlawfulImsi
-    (ask_for (at whose s.records i) denial.NotEnrolled (λ r.
+    (ask_for (record_at s i) denial.NotEnrolled (λ r.
     ask (is_sure_of (λ n. true) r.mark) denial.WrongMark
     (Ok (plan (paged s) (pages s i t ch)))))))

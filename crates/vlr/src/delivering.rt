@@ -4,9 +4,9 @@ ghost use Rattle.directory.specs.Lookup.{stored};
 ghost use Rattle.messages.specs.Lawful.{lawful_message};
 ghost use Rattle.station.specs.Sends.{HasStamps, Sent};
 ghost use Rattle.vlr.specs.Delivering.{noted, message_plan, taken_by, delivery};
-ghost use Rattle.vlr.specs.Laws.{record_at, DeliversByMobile};
+ghost use Rattle.vlr.specs.Laws.{DeliversByMobile};
 ghost use Rattle.vlr.specs.Records.{names_its};
-ghost use Rattle.vlr.specs.State.{state_of, whose, with_records, Does};
+ghost use Rattle.vlr.specs.State.{state_of, whose, record_at, with_records, Does};
 
 use crate::moves::message_move;
 use crate::record::{DoubtAt, Record};

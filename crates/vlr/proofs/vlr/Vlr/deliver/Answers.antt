@@ -8,8 +8,8 @@ use Rattle.station.specs.Calls.{AtOnce, Taking, Does, Done, by_taken}
 use Rattle.station.specs.Receiving.{is_from, Received}
 use Rattle.station.specs.Sends.{is_worn}
 use Rattle.vlr.specs.Delivering.{taken_by, frame_plan}
-use Rattle.vlr.specs.Laws.{record_at, by_message, TakenByMobile}
-use Rattle.vlr.specs.State.{state_of, own_of, last_of}
+use Rattle.vlr.specs.Laws.{by_message, TakenByMobile}
+use Rattle.vlr.specs.State.{state_of, own_of, last_of, record_at}
 use Rattle.vlr.proofs.ByMobile.{taken-at}
 use Rattle.vlr.proofs.Delivers.{message_lawful}
 use Rattle.vlr.proofs.Moved.{plan_from, taken_answer}
