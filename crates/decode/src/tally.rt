@@ -21,13 +21,13 @@ pub struct Tally {
 }
 
 impl Tally {
-    pub fn new() -> Tally
+    pub(crate) fn new() -> Tally
         ensures { result ≡ no_lines }
     {
         Tally::default()
     }
 
-    pub fn note(&mut self, outcome: Result<Frame, Refusal>)
+    pub(crate) fn note(&mut self, outcome: Result<Frame, Refusal>)
         ensures { self.new ≡ noted self.old outcome }
     {
         match outcome {

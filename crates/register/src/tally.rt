@@ -23,13 +23,13 @@ pub struct Tally {
 }
 
 impl Tally {
-    pub fn new() -> Tally
+    pub(crate) fn new() -> Tally
         ensures { result ≡ nothing_yet }
     {
         Tally::default()
     }
 
-    pub fn note(&mut self, event: Event)
+    pub(crate) fn note(&mut self, event: Event)
         ensures { self.new ≡ noted self.old event }
     {
         match event {
