@@ -16,6 +16,6 @@ no_lines = record { frames = 0; faults = replicate 9 0; bad_lines = 0 }
 
 -- an outcome raises its own count and no other; the faults' counts begin with that of fault 20
 abbrev pub noted : Tally → Result Frame Refusal → Tally
-noted t (Ok f) = record { frames = one_more t.frames; faults = t.faults; bad_lines = t.bad_lines }
-noted t (Err (refusal.Fault e)) = record { frames = t.frames; faults = one_more_at t.faults (fault_number e.kind - 20); bad_lines = t.bad_lines }
-noted t (Err (refusal.Line b)) = record { frames = t.frames; faults = t.faults; bad_lines = one_more t.bad_lines }
+noted t (Ok f) = record t { frames = one_more t.frames }
+noted t (Err (refusal.Fault e)) = record t { faults = one_more_at t.faults (fault_number e.kind - 20) }
+noted t (Err (refusal.Line b)) = record t { bad_lines = one_more t.bad_lines }

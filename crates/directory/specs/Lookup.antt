@@ -35,7 +35,12 @@ AfterChange {R} w f before after =
 
 -- a store among the first n places answers how many records there are now, or leaves all as it was
 abbrev pub Stored : {R : Type 0} → (R → Imsi) → ℕ → R → List R → List R → Option ℕ → Type 0
-Stored w n r ps qs (Some m) = (m ≤ length ps) × (fits w (length ps) (take n ps) (w r) ≡ true) × (take m qs ≡ stored w r (take n ps)) × Climbs w (take m qs) × AfterStore w r (take n ps) (take m qs)
+Stored w n r ps qs (Some m) =
+    (m ≤ length ps)
+    × (fits w (length ps) (take n ps) (w r) ≡ true)
+    × (take m qs ≡ stored w r (take n ps))
+    × Climbs w (take m qs)
+    × AfterStore w r (take n ps) (take m qs)
 Stored w n r ps qs None = (fits w (length ps) (take n ps) (w r) ≡ false) × (qs ≡ ps)
 
 -- n places are there and their records rise

@@ -9,7 +9,7 @@ nothing_yet = record { puts = 0; takes = 0; given = 0; nothing = 0; bad_lines = 
 
 -- an event raises its own count and no other, but for a take, which counts among the takes too
 abbrev pub noted : Tally → Event → Tally
-noted t Put = record { puts = one_more t.puts; takes = t.takes; given = t.given; nothing = t.nothing; bad_lines = t.bad_lines }
-noted t Given = record { puts = t.puts; takes = one_more t.takes; given = one_more t.given; nothing = t.nothing; bad_lines = t.bad_lines }
-noted t Nothing = record { puts = t.puts; takes = one_more t.takes; given = t.given; nothing = one_more t.nothing; bad_lines = t.bad_lines }
-noted t BadLine = record { puts = t.puts; takes = t.takes; given = t.given; nothing = t.nothing; bad_lines = one_more t.bad_lines }
+noted t Put = record t { puts = one_more t.puts }
+noted t Given = record t { takes = one_more t.takes; given = one_more t.given }
+noted t Nothing = record t { takes = one_more t.takes; nothing = one_more t.nothing }
+noted t BadLine = record t { bad_lines = one_more t.bad_lines }

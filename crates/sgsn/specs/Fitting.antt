@@ -25,4 +25,6 @@ waits_for (errand.Open o) = Some o.vlr
 waits_for (errand.Ended v) = None
 
 abbrev pub fits_in : List VlrNumber → Context → Bool
-fits_in vs r = lawful_imsi r.imsi.digits r.imsi.value && (sound r && (if_named vs (node_in r.mark) && if_named vs (waits_for r.errand)))
+fits_in vs r =
+    lawful_imsi r.imsi.digits r.imsi.value
+    && (sound r && (if_named vs (node_in r.mark) && if_named vs (waits_for r.errand)))

@@ -20,7 +20,9 @@ all_different (v ∷ vs) = not (list_any (λ w. same_node w.node v.node) vs) && 
 
 -- one to four VLRs, all numbers lawful and different
 abbrev pub lawful_numbers : SgsnNumber → List VlrNumber → Bool
-lawful_numbers n vs = nat_le 1 (length vs) && (nat_le (length vs) 4 && (list_all (λ v. lawful_nodes n.node v.node) vs && all_different vs))
+lawful_numbers n vs =
+    nat_le 1 (length vs)
+    && (nat_le (length vs) 4 && (list_all (λ v. lawful_nodes n.node v.node) vs && all_different vs))
 
 -- the same numbers, rising
 abbrev pub Risen : List VlrNumber → List VlrNumber → Type 0
@@ -35,5 +37,8 @@ new_state n vs = record { own = n.node; last = 0; peers = map new_peer vs; recor
 
 -- the VLRs stand in rising number, in whatever order they were given
 abbrev pub Made : SgsnNumber → List VlrNumber → Result Sgsn Denial → Type 0
-Made n vs (Ok s) = (lawful_numbers n vs ≡ true) × Risen vs (vlrs_of (state_of s)) × (state_of s ≡ new_state n (vlrs_of (state_of s)))
+Made n vs (Ok s) =
+    (lawful_numbers n vs ≡ true)
+    × Risen vs (vlrs_of (state_of s))
+    × (state_of s ≡ new_state n (vlrs_of (state_of s)))
 Made n vs (Err d) = (lawful_numbers n vs ≡ false) × (d ≡ denial.WrongNumbers)

@@ -64,7 +64,8 @@ kept s r = plan (with_context s r) []
 -- an SGSN does as this call goes: its result, and the SGSN and the carrier before and after it
 abbrev pub Does : {T E C : Type 0} → (C → NodeNumber → Option (List ℕ) → C → Type 0) → (C → List ℕ → C → Type 0)
     → (State → Course T State E) → Result T E → Sgsn → C → Sgsn → C → Type 0
-Does takes puts call r s c t d = station.Does own_of last_of takes puts (call (state_of s)) r (state_of s) c (state_of t) d
+Does takes puts call r s c t d =
+    station.Does own_of last_of takes puts (call (state_of s)) r (state_of s) c (state_of t) d
 
 -- the same of a call that has no carrier
 abbrev pub Decides : {T E : Type 0} → (State → Result (Plan T State) E) → Result T E → Sgsn → Sgsn → Type 0

@@ -9,9 +9,9 @@ nothing_yet = record { accepted = 0; refused = 0; sent = 0; taken = 0; dropped =
 
 -- an event raises its own count and no other
 abbrev pub noted : Tally → Event → Tally
-noted t Accepted = record { accepted = one_more t.accepted; refused = t.refused; sent = t.sent; taken = t.taken; dropped = t.dropped; lost = t.lost }
-noted t Refused = record { accepted = t.accepted; refused = one_more t.refused; sent = t.sent; taken = t.taken; dropped = t.dropped; lost = t.lost }
-noted t Sent = record { accepted = t.accepted; refused = t.refused; sent = one_more t.sent; taken = t.taken; dropped = t.dropped; lost = t.lost }
-noted t Taken = record { accepted = t.accepted; refused = t.refused; sent = t.sent; taken = one_more t.taken; dropped = t.dropped; lost = t.lost }
-noted t Dropped = record { accepted = t.accepted; refused = t.refused; sent = t.sent; taken = t.taken; dropped = one_more t.dropped; lost = t.lost }
-noted t Lost = record { accepted = t.accepted; refused = t.refused; sent = t.sent; taken = t.taken; dropped = t.dropped; lost = one_more t.lost }
+noted t Accepted = record t { accepted = one_more t.accepted }
+noted t Refused = record t { refused = one_more t.refused }
+noted t Sent = record t { sent = one_more t.sent }
+noted t Taken = record t { taken = one_more t.taken }
+noted t Dropped = record t { dropped = one_more t.dropped }
+noted t Lost = record t { lost = one_more t.lost }

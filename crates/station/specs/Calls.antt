@@ -1,5 +1,5 @@
--- What a call does at an end: the first question whose answer is no denies it, and it changes nothing; else it does as is
--- planned for it. A delivery takes first, and what it took, as it reads, decides.
+-- What a call does at an end: the first question whose answer is no denies it, and it changes nothing; else it does
+-- as is planned for it. A delivery takes first, and what it took, as it reads, decides.
 use Rattle.std.specs.Prelude.{◌≡◌, ℕ, Bool, if◌then◌else◌, not, List, [], Ok, Err, Some, None, Option, Result}
 use Rattle.elements.specs.declared.fault.Fault.{Fault}
 use Rattle.elements.specs.declared.node.NodeNumber.{NodeNumber}
@@ -37,12 +37,12 @@ ask_for (Some x) d others = others x
 abbrev pub unless_worn : {X : Type 0} → ℕ → Result X Denial → Result X Denial
 unless_worn last others = ask (not (is_worn last)) denial.Worn others
 
--- the same with this answer, and with this for a refusal
+-- the same plan, with its answer told so, or its refusal
 abbrev pub plan_with : {T U V E F : Type 0} → (T → U) → (E → F) → Result (Plan T V) E → Result (Plan U V) F
 plan_with f g (Err e) = Err (g e)
 plan_with f g (Ok p) = Ok (record { answer = f p.answer; after = p.after; sends = p.sends })
 
--- the result that is then handed on so
+-- a result that is told likewise
 abbrev pub handed_on : {T U E F : Type 0} → (T → U) → (E → F) → Result T E → Result U F
 handed_on f g (Err e) = Err (g e)
 handed_on f g (Ok x) = Ok (f x)
@@ -74,15 +74,17 @@ module _ {V : Type 0} (own : V → NodeNumber) (last : V → ℕ) where
   Done puts (Ok p) r s c t d = (r ≡ Ok p.answer) × (t ≡ p.after) × Sent puts (own s) (last s) p.sends c d
 
   -- it takes once, and goes by what was taken
-  pub record Took {T E C : Type 0} (takes : C → NodeNumber → Option (List ℕ) → C → Type 0) (puts : C → List ℕ → C → Type 0)
-      (by : Option (Result Frame Fault) → Result (Plan T V) E) (r : Result T E) (s : V) (c : C) (t : V) (d : C) : Type 0 where
+  pub record Took {T E C : Type 0} (takes : C → NodeNumber → Option (List ℕ) → C → Type 0)
+      (puts : C → List ℕ → C → Type 0) (by : Option (Result Frame Fault) → Result (Plan T V) E)
+      (r : Result T E) (s : V) (c : C) (t : V) (d : C) : Type 0 where
     pub got : Option (Result Frame Fault)
     pub between : C
     pub received : Received takes (own s) got c between
     pub done : Done puts (by got) r s between t d
 
   -- what every call does: its result, and the end and the carrier before and after it
-  abbrev pub Does : {T E C : Type 0} → (C → NodeNumber → Option (List ℕ) → C → Type 0) → (C → List ℕ → C → Type 0)
+  abbrev pub Does : {T E C : Type 0} → (C → NodeNumber → Option (List ℕ) → C → Type 0)
+      → (C → List ℕ → C → Type 0)
       → Course T V E → Result T E → V → C → V → C → Type 0
   Does takes puts (AtOnce p) r s c t d = Done puts p r s c t d
   Does takes puts (Taking by) r s c t d = Took takes puts by r s c t d
@@ -95,13 +97,16 @@ module _ {V : Type 0} (own : V → NodeNumber) (last : V → ℕ) where
 abbrev pub quietly : {V : Type 0} → V → Plan Delivery V
 quietly t = record { answer = delivery.Done; after = t; sends = [] }
 
--- A delivery at an end at which a frame does this: where nothing was taken there is nothing to do, and octets that are no
--- frame are spent.
-abbrev pub by_taken : {V : Type 0} → (V → Frame → Plan Delivery V) → V → Option (Result Frame Fault) → Result (Plan Delivery V) Refusal
+-- A delivery at an end at which a frame does this: where nothing was taken there is nothing to do, and octets that are
+-- no frame are spent.
+abbrev pub by_taken : {V : Type 0} → (V → Frame → Plan Delivery V) → V
+    → Option (Result Frame Fault) → Result (Plan Delivery V) Refusal
 by_taken by_frame s None = Ok (record { answer = delivery.Nothing; after = s; sends = [] })
 by_taken by_frame s (Some (Err e)) = Err (Faulty e)
 by_taken by_frame s (Some (Ok f)) = Ok (by_frame s f)
 
 -- a worn end takes nothing
 abbrev pub delivering : {V : Type 0} → (V → ℕ) → (V → Frame → Plan Delivery V) → V → Course Delivery V Refusal
-delivering last by_frame s = if is_worn (last s) then AtOnce (Err (Denied denial.Worn)) else Taking (by_taken by_frame s)
+delivering last by_frame s =
+    if is_worn (last s) then AtOnce (Err (Denied denial.Worn))
+    else Taking (by_taken by_frame s)

@@ -9,7 +9,8 @@ use Rattle.frames.specs.declared.frame.Frame.{Frame}
 use Rattle.frames.specs.Format.{frame_in, lawful_frame}
 
 -- what a take for this node gave, as it reads
-abbrev pub Received : {C : Type 0} → (C → NodeNumber → Option (List ℕ) → C → Type 0) → NodeNumber → Option (Result Frame Fault) → C → C → Type 0
+abbrev pub Received : {C : Type 0} → (C → NodeNumber → Option (List ℕ) → C → Type 0)
+    → NodeNumber → Option (Result Frame Fault) → C → C → Type 0
 Received takes n None c d = takes c n None d
 Received takes n (Some r) c d = (x : List ℕ) × takes c n (Some x) d × (frame_in x ≡ r)
 

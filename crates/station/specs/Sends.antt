@@ -26,7 +26,13 @@ may_go own s = lawful_nodes own s.to && lawful_message s.message
 
 -- the frame that an end sends behind this last stamp
 abbrev pub frame_of : NodeNumber → ℕ → Outgoing → Frame
-frame_of own last s = record { source = own; destination = s.to; stamp = last + 1; answers = s.answers; message = s.message }
+frame_of own last s = record {
+  source = own;
+  destination = s.to;
+  stamp = last + 1;
+  answers = s.answers;
+  message = s.message;
+}
 
 -- all that an end sends, one after the other
 abbrev pub frames_of : NodeNumber → ℕ → List Outgoing → List Frame
@@ -35,7 +41,9 @@ frames_of own last (s ∷ ss) = frame_of own last s ∷ frames_of own (last + 1)
 
 -- these went out one after the other, each as a lawful frame
 abbrev pub Sent : {C : Type 0} → (C → List ℕ → C → Type 0) → NodeNumber → ℕ → List Outgoing → C → C → Type 0
-Sent puts own last ss c d = PutsAll puts c (map frame_octets (frames_of own last ss)) d × (list_all lawful_frame (frames_of own last ss) ≡ true)
+Sent puts own last ss c d =
+    PutsAll puts c (map frame_octets (frames_of own last ss)) d
+    × (list_all lawful_frame (frames_of own last ss) ≡ true)
 
 -- one message or none
 abbrev pub outgoing_in : Option Outgoing → List Outgoing

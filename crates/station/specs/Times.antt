@@ -37,8 +37,13 @@ record_clock ticked sends = record {
 }
 
 -- of peers that have this number
-abbrev pub peer_clock : {P : Type 0} → (P → NodeNumber) → (NodeNumber → ℕ → P → P) → (NodeNumber → P → List Outgoing) → Clock P
-peer_clock node ticked sends = record { ticked = ticked; sends = sends; may = λ own p. lawful_nodes own (node p) }
+abbrev pub peer_clock : {P : Type 0} → (P → NodeNumber) → (NodeNumber → ℕ → P → P)
+    → (NodeNumber → P → List Outgoing) → Clock P
+peer_clock node ticked sends = record {
+  ticked = ticked;
+  sends = sends;
+  may = λ own p. lawful_nodes own (node p);
+}
 
 module _ {R P : Type 0} (a : Clock R) (b : Clock P) where
   -- all that goes out
