@@ -1,13 +1,13 @@
 -- Reading and writing an IMSI undo each other.
-use Rattle.std.proofs.Common.{◌≡◌, ℕ, zero, suc, ◌+◌, ◌-◌, ◌*◌, ◌/◌, ◌%◌, ◌^◌, ◌<◌, ◌≤◌, true, ◌&&◌, eqb, ltb, leb, List, [], ◌∷◌, ◌++◌, length, get_or, take, Some, None, Option, sym, refl, ap, ◌∙◌, subst, ⊎_elim, mod-lt, pow-suc, div-add-mod', arith}
+use Rattle.std.proofs.Common.{◌≡◌, ℕ, zero, suc, ◌+◌, ◌-◌, ◌*◌, ◌/◌, ◌%◌, ◌^◌, ◌<◌, ◌≤◌, true, ◌&&◌, eqb, ltb, leb, List, [], ◌∷◌, ◌++◌, length, get_or, take, replicate, Some, None, Option, sym, refl, ap, ◌∙◌, subst, ⊎_elim, mod-lt, pow-suc, div-add-mod', arith}
 use Rattle.std.proofs.lemmas.Option.{none-some}
 use Rattle.std.proofs.lemmas.List.{take_at, take_all, get_or_at, length-take-le, take_more}
 use Rattle.std.proofs.lemmas.Bool.{cond-true, cond-false, eq-eqb, ne_eqb, eqb-true, lt-ltb, ltb-true, le-leb, leb-true, and_parts, and_from, cases_eq, cases_Bool}
 use Rattle.imsi.specs.declared.Imsi.{Imsi}
-use Rattle.arrayvec.specs.ArrayVec.{ArrayVec}
+use Rattle.imsi.specs.declared.writing.ImsiOctets.{ImsiOctets}
 use Rattle.imsi.specs.Halves.{halves, paired}
 use Rattle.imsi.specs.Spelling.{valued, digits, counted, after, in_halves, imsi_in, spelt, imsi_octets, lawful_imsi, Spells, ReadsExactly}
-use Rattle.imsi.specs.Written.{written_of, spelling_of, ReadBack}
+use Rattle.imsi.specs.Written.{octet_count, written_of, spelling_of, ReadBack}
 use Rattle.imsi.proofs.Nibbles.{length-halves, length-paired, halves-paired, paired-halves}
 use Rattle.imsi.proofs.Values.{valued-digits, digits-valued}
 use Rattle.imsi.proofs.Spelt.{Small-spelt, length-spelt, length-digits, length-octets}
@@ -148,21 +148,28 @@ exactly os r e = record {
   read_so = λ k v h. e ∙ ap imsi_in (sym h.1) ∙ read_written k v h.0;
 }
 
--- what the writer answers are the octets that spell a lawful IMSI
-pub record Shown (i : Imsi) (w : ArrayVec ℕ) : Type 0 where
+-- what the writer answers begins with the octets that spell a lawful IMSI
+pub record Shown (i : Imsi) (w : ImsiOctets) : Type 0 where
   pub lawful : lawful_imsi i.digits i.value ≡ true
-  pub items : w.items ≡ imsi_octets i.digits i.value
+  pub count : w.count ≡ octet_count i.digits
+  pub octets : take w.count w.octets ≡ imsi_octets i.digits i.value
 
-pub shown : (i : Imsi) (w : ArrayVec ℕ) → Some w ≡ written_of i → Shown i w
+pub shown : (i : Imsi) (w : ImsiOctets) → Some w ≡ written_of i → Shown i w
 shown i w e =
     ⊎_elim
     (λ law.
-    let is : ◌≡◌ {A = Option (ArrayVec ℕ)} (Some w) (Some (spelling_of i)) = e ∙ cond-true _ _ _ law in
+    let k = i.digits in
+    let rest = replicate (8 - octet_count k) 255 in
+    let is : ◌≡◌ {A = Option ImsiOctets} (Some w) (Some (spelling_of i)) = e ∙ cond-true _ _ _ law in
     let same : w ≡ spelling_of i = cc in
-    record { lawful = law; items = ap (λ (v : ArrayVec ℕ). v.items) same })
+    record {
+      lawful = law;
+      count = ap (λ (v : ImsiOctets). v.count) same;
+      octets = ap (λ (v : ImsiOctets). take v.count v.octets) same ∙ take_at (imsi_octets k i.value) rest (octet_count k) (length-octets k i.value);
+    })
     (λ no-law. absurd (none-some w (sym (cond-false _ _ _ no-law) ∙ sym e)))
     (cases_Bool (lawful_imsi i.digits i.value))
 
 -- and they are read back as what it was given
-pub read_back : (i : Imsi) (r : Option (ArrayVec ℕ)) → r ≡ written_of i → ReadBack i r
-read_back i r e w h = let s = shown i w (sym h ∙ e) in ap imsi_in s.items ∙ read_written i.digits i.value s.lawful
+pub read_back : (i : Imsi) (r : Option ImsiOctets) → r ≡ written_of i → ReadBack i r
+read_back i r e w h = let s = shown i w (sym h ∙ e) in ap imsi_in s.octets ∙ read_written i.digits i.value s.lawful

@@ -1,5 +1,5 @@
 -- The octets that spell a digit count and a value.
-use Rattle.std.specs.Prelude.{◌≡◌, ℕ, zero, suc, ◌+◌, ◌-◌, ◌*◌, ◌/◌, ◌%◌, ◌^◌, Bool, true, if◌then◌else◌, ◌&&◌, List, [], ◌∷◌, ◌++◌, length, take, drop, Some, None, Option, ◌==◌, nat_le, nat_lt, slice_index}
+use Rattle.std.specs.Prelude.{◌≡◌, ℕ, zero, suc, ◌+◌, ◌-◌, ◌*◌, ◌/◌, ◌%◌, ◌^◌, Bool, true, if◌then◌else◌, ◌&&◌, List, [], ◌∷◌, ◌++◌, length, take, drop, replicate, Some, None, Option, ◌==◌, nat_le, nat_lt, slice_index}
 use Rattle.imsi.specs.Halves.{halves, paired}
 
 -- 1 to 15 digits, and a value that so many digits can write
@@ -50,3 +50,7 @@ imsi_in os = if nat_le 1 (length os) && nat_le (length os) 8 then in_halves (len
 pub record ReadsExactly (os : List ℕ) (r : Option (ℕ × ℕ)) : Type 0 where
   pub spelt_so : (k v : ℕ) → r ≡ Some (k, v) → Spells k v os
   pub read_so : (k v : ℕ) → Spells k v os → r ≡ Some (k, v)
+
+-- sixteen halves: the marker, the digits, and F in each place after them
+abbrev pub filled : ℕ → ℕ → List ℕ
+filled k v = (1 + 8 * (k % 2)) ∷ digits k v ++ replicate (15 - k) 15

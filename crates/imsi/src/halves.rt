@@ -1,9 +1,7 @@
 // Half octets: the low half of each octet stands before its high half.
 ghost use Rattle.std.specs.Prelude.{◌≡◌, ◌*◌, ◌<◌, ◌≤◌, length, take, drop, MatchOption};
-ghost use Rattle.imsi.specs.Halves.{halves};
-ghost use Rattle.imsi.specs.Spelling.{valued, imsi_octets};
-
-use arrayvec::ArrayVec;
+ghost use Rattle.imsi.specs.Halves.{halves, paired};
+ghost use Rattle.imsi.specs.Spelling.{valued, filled};
 
 // A half octet above this is no digit.
 const LAST_DIGIT: u8 = 9;
@@ -37,26 +35,25 @@ pub(crate) fn value_in(octets: &[u8], count: usize) -> Option<u64>
     Some(value * 10 + last as u64)
 }
 
-// The octets that spell the last `digits` digits of `value`. They are made from the last one back, two digits
-// at a time: only the last one of an even count, which has the filler, and the first, which has the marker,
-// have one digit.
-pub(crate) fn octets_from(digits: u8, value: u64) -> ArrayVec<u8, 8>
+// The octets that spell the last `digits` digits of `value`, FF in each place after them. They are made from
+// the last one back, two digits at a time: only the last one of an even count, which has the filler, and the
+// first, which has the marker, have one digit.
+pub(crate) fn octets_from(digits: u8, value: u64) -> [u8; 8]
     requires some { 1 ≤ digits }
     requires few { digits ≤ 15 }
-    ensures { result.items ≡ imsi_octets digits value }
+    ensures { result ≡ paired (filled digits value) }
 {
-    let mut octets: ArrayVec<u8, 8> = ArrayVec::new();
+    let mut octets = [255u8; 8];
     let mut left = value;
     if digits % 2 == 0 {
-        octets.push(240 + (left % 10) as u8);
+        octets[digits as usize / 2] = 240 + (left % 10) as u8;
         left /= 10;
     }
-    for _ in 0..(digits - 1) / 2 {
+    for i in (1..(digits as usize + 1) / 2).rev() {
         let pair = (left % 100) as u8;
-        octets.push(pair / 10 + 16 * (pair % 10));
+        octets[i] = pair / 10 + 16 * (pair % 10);
         left /= 100;
     }
-    octets.push(1 + 8 * (digits % 2) + 16 * (left % 10) as u8);
-    octets.as_mut_slice().reverse();
+    octets[0] = 1 + 8 * (digits % 2) + 16 * (left % 10) as u8;
     octets
 }

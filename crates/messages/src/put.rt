@@ -51,7 +51,7 @@ impl Writer<'_> {
     {
         // A lawful IMSI has octets.
         let spelt = octets_of(imsi).unwrap();
-        self.element(Element::Imsi, &spelt);
+        self.element(Element::Imsi, &spelt.octets[..spelt.count]);
     }
 
     // The octet that stands for `value`.

@@ -1,46 +1,36 @@
-use Rattle.std.proofs.Common.{◌≡◌, ℕ, ◌+◌, ◌-◌, ◌*◌, ◌/◌, ◌%◌, ◌∷◌, ◌++◌, [], reverse, subst, sym, ap, ◌∙◌, length, arith}
-use Rattle.std.proofs.lemmas.List.{take_at}
-use Rattle.arrayvec.specs.ArrayVec.{ArrayVec}
-use Rattle.imsi.proofs.Pairs.{Left, odd_start, even_start, pair_turn, pair_end}
+use Rattle.std.proofs.Common.{◌+◌, ◌-◌, ◌*◌, ◌/◌, ◌%◌, ◌∷◌, ◌++◌, length, drop, refl, ap, ◌∙◌, arith}
+use Rattle.std.proofs.lemmas.List.{length-set}
+use Rattle.imsi.specs.Halves.{paired}
+use Rattle.imsi.specs.Spelling.{digits}
+use Rattle.imsi.proofs.Pairs.{odd_start, even_start, pair_turn, pair_end}
 use Rattle.imsi.proofs.halves.octets_from.Goals as goal
 use Rattle.imsi.proofs.halves.octets_from.Goals.{then-digits-eq0, else-digits-eq0}
 
-pub loop-init : goal.loop-init
-loop-init c =
+pub loop-i-init : goal.loop-i-init
+loop-i-init c =
     let k = c.args.digits in
     let v = c.args.value in
-    let d = 2 * ((k - 1) / 2 - 0) + 1 in
+    let i = (k + 1) / 2 in
     elim c.if-digits-eq0.branch [
       | then-digits-eq0 w ↦ (
-          let items : c.if-digits-eq0.octets.items ≡ (240 + v % 10) ∷ [] = ap (λ (b : ArrayVec ℕ). b.items) w.octets-is ∙ w.push.ensures.items ∙ ap (λ l. l ++ (240 + v % 10) ∷ []) c.new-octets.ensures in
-          record {
-            length_is = omega (arith, ap length items);
-            left = subst (Left k v d c.if-digits-eq0.left) (sym items) (subst (λ n. Left k v d n ((240 + v % 10) ∷ [])) (sym w.left-is) (even_start k v d (omega arith) (omega arith)));
-          })
+        ap length w.octets-is ∙ simp length-set,
+        omega arith,
+        (λ t. paired ((1 + 8 * (k % 2)) ∷ digits (2 * i - 1) (w.left-is t)) ++ drop i (w.octets-is t)) ∙ even_start k v i (omega arith) (omega arith) (omega arith) refl,
+      )
       | else-digits-eq0 w ↦ (
-          let items : c.if-digits-eq0.octets.items ≡ [] = ap (λ (b : ArrayVec ℕ). b.items) w.octets-is ∙ c.new-octets.ensures in
-          record {
-            length_is = omega (arith, ap length items);
-            left = subst (Left k v d c.if-digits-eq0.left) (sym items) (subst (λ n. Left k v d n []) (sym w.left-is) (odd_start k v d (omega arith) (omega arith)));
-          })
+        ap length w.octets-is,
+        omega arith,
+        (λ t. paired ((1 + 8 * (k % 2)) ∷ digits (2 * i - 1) (w.left-is t)) ++ drop i (w.octets-is t)) ∙ odd_start k v i (omega arith) (omega arith) refl,
+      )
     ]
 
-pub loop-preserved : goal.loop-preserved
-loop-preserved c =
-    let k = c.args.digits in
-    let r = (k - 1) / 2 - (c.loop.counter + 1) in
-    record {
-      length_is = omega (arith, c.push-in-loop.ensures.len, c.loop.invariant.length_is);
-      left =
-          subst (Left k c.args.value (2 * r + 1) (c.loop.left / 100)) (sym c.push-in-loop.ensures.items)
-          (pair_turn k c.args.value r (2 * ((k - 1) / 2 - c.loop.counter) + 1) c.loop.left c.loop.octets.items (omega arith) c.loop.invariant.left);
-    }
+pub loop-i-preserved : goal.loop-i-preserved
+loop-i-preserved c =
+    let i = c.loop-i.i in (
+      simp length-set c.loop-i.invariant.0,
+      omega arith,
+      pair_turn c.loop-i.octets (1 + 8 * (c.args.digits % 2)) i (i - 1) c.loop-i.left _ (omega arith) (omega arith) (omega (arith, c.loop-i.invariant.0)) c.loop-i.invariant.2,
+    )
 
 pub returns : goal.returns
-returns c =
-    let k = c.args.digits in
-    let value = c.as_mut_slice.ensures.value in
-    take_at c.reverse.new.self _ _ (c.reverse.ensures.len ∙ ap length value)
-    ∙ c.reverse.ensures.after
-    ∙ ap reverse (value ∙ c.push-2.ensures.items)
-    ∙ pair_end k c.args.value (2 * ((k - 1) / 2 - c.loop.counter) + 1) c.loop.left c.loop.octets.items (omega arith) c.loop.invariant.left
+returns c = pair_end c.loop-i.octets (1 + 8 * (c.args.digits % 2)) c.loop-i.i c.loop-i.left _ (omega arith) (omega (arith, c.loop-i.invariant.0)) c.loop-i.invariant.2

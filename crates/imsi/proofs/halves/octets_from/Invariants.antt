@@ -1,10 +1,10 @@
-use Rattle.std.proofs.Common.{◌≡◌, ◌+◌, ◌-◌, ◌*◌, ◌/◌, ◌%◌, length}
-use Rattle.imsi.proofs.Pairs.{Left}
+use Rattle.std.proofs.Common.{◌≡◌, ◌+◌, ◌-◌, ◌*◌, ◌%◌, ◌≤◌, ◌∷◌, ◌++◌, length, drop}
+use Rattle.imsi.specs.Halves.{paired}
+use Rattle.imsi.specs.Spelling.{digits, filled}
 use Rattle.imsi.proofs.halves.octets_from.Given as goal
 
--- one digit stays for the first octet
-abbrev pub invariant-loop : goal.invariant-loop
-invariant-loop l = record {
-  length_is : length l.octets.items + l.digits % 2 ≡ l.counter + 1;
-  left : Left l.digits l.value (2 * ((l.digits - 1) / 2 - l.counter) + 1) l.left l.octets.items;
-}
+abbrev pub invariant-loop-i : goal.invariant-loop-i
+invariant-loop-i l =
+    (length l.octets ≡ 8)
+    × (1 ≤ l.i)
+    × (paired ((1 + 8 * (l.digits % 2)) ∷ digits (2 * l.i - 1) l.left) ++ drop l.i l.octets ≡ paired (filled l.digits l.value))
