@@ -1,5 +1,6 @@
 // Elements read from octets, one after another.
-ghost use Rattle.std.specs.Prelude.{◌≡◌, ◌+◌, ◌/◌, ◌<◌, length, MatchOption, IfSome, IfOk, OnOk, slice_get};
+ghost use Rattle.std.specs.Prelude.{◌≡◌, ◌+◌, ◌/◌, ◌<◌, length, slice_get};
+ghost use Rattle.std.specs.Prelude.{MatchOption, IfSome, IfNone, IfOk, OnOk, OnErr};
 ghost use Rattle.elements.specs.Areas.{element_of};
 ghost use Rattle.elements.specs.Reading.{next_is, element_at, coded_at, imsi_at, number_at, after_tmsi};
 ghost use Rattle.elements.specs.Reading.{tmsi_at, after_channel, channel_at, area_at, end_at};
@@ -19,7 +20,7 @@ pub fn number_at(octets: &[u8], at: usize) -> Option<u32>
 }
 
 // Octets, and the place at which the next element is read. Each reading that succeeds steps over what it
-// read; `coded` is for elements of one octet.
+// read; one that refuses leaves the reader where it was. `coded` is for elements of one octet.
 #[derive(Clone, Copy, Debug)]
 pub struct Reader<'a> {
     pub octets: &'a [u8],
@@ -38,6 +39,7 @@ impl<'a> Reader<'a> {
     pub fn octet(&mut self) -> Option<u8>
         ensures value { result ≡ slice_get self.old.octets.now self.old.at }
         ensures after { IfSome result (λ _. self.new ≡ record self.old { at = self.old.at + 1 }) }
+        ensures ended { IfNone result (self.new ≡ self.old) }
     {
         let octet = *self.octets.get(self.at)?;
         self.at += 1;
@@ -76,6 +78,7 @@ impl<'a> Reader<'a> {
     pub fn coded<T: Coded>(&mut self, element: Element) -> Result<T, Fault>
         ensures value { result ≡ coded_at T.Coded.value_in self.old.octets.now self.old.at element }
         ensures after { OnOk result (self.new ≡ record self.old { at = self.old.at + 3 }) }
+        ensures refused { OnErr result (self.new ≡ self.old) }
     {
         let _count = self.content_count(element)?;
         let place = self.at + 2;
@@ -88,6 +91,7 @@ impl<'a> Reader<'a> {
     pub fn imsi(&mut self) -> Result<(u8, u64), Fault>
         ensures value { result ≡ imsi_at self.old.octets.now self.old.at }
         ensures after { IfOk result (λ i. self.new ≡ record self.old { at = self.old.at + 3 + i.0 / 2 }) }
+        ensures refused { OnErr result (self.new ≡ self.old) }
     {
         let count = self.content_count(Element::Imsi)?;
         let place = self.at + 2;
@@ -101,6 +105,7 @@ impl<'a> Reader<'a> {
     pub fn tmsi(&mut self) -> Result<Option<u32>, Fault>
         ensures value { result ≡ tmsi_at self.old.octets.now self.old.at }
         ensures after { IfOk result (λ t. self.new ≡ record self.old { at = after_tmsi self.old.at t }) }
+        ensures refused { OnErr result (self.new ≡ self.old) }
     {
         if !self.is_next(Element::Tmsi) {
             return Ok(None);
@@ -115,6 +120,7 @@ impl<'a> Reader<'a> {
     pub fn channel(&mut self) -> Result<Option<u8>, Fault>
         ensures value { result ≡ channel_at self.old.octets.now self.old.at }
         ensures after { IfOk result (λ c. self.new ≡ record self.old { at = after_channel self.old.at c }) }
+        ensures refused { OnErr result (self.new ≡ self.old) }
     {
         if !self.is_next(Element::Channel) {
             return Ok(None);
@@ -133,6 +139,7 @@ impl<'a> Reader<'a> {
     pub fn area(&mut self, area: Area) -> Result<LocationArea, Fault>
         ensures value { result ≡ area_at self.old.octets.now self.old.at (element_of area) }
         ensures after { OnOk result (self.new ≡ record self.old { at = self.old.at + 7 }) }
+        ensures refused { OnErr result (self.new ≡ self.old) }
     {
         let Reader { octets, at } = *self;
         let _count = self.content_count(area.element())?;
