@@ -1,5 +1,5 @@
 -- The octets that a line of hexadecimal digits writes.
-use Rattle.std.specs.Prelude.{ℕ, ◌+◌, ◌-◌, ◌*◌, Bool, if◌then◌else◌, ◌&&◌, ◌||◌, List, [], ◌∷◌, Some, None, Ok, Err, Option, Result, ◌==◌, nat_le}
+use Rattle.std.specs.Prelude.{ℕ, ◌+◌, ◌-◌, ◌*◌, Bool, if◌then◌else◌, ◌&&◌, ◌||◌, List, [], ◌∷◌, take, Some, None, Ok, Err, Option, Result, ◌==◌, nat_le}
 use Rattle.words.specs.declared.line.LineOctets.{LineOctets}
 use Rattle.words.specs.declared.line.BadLine.{BadLine}
 use Rattle.words.specs.declared.line.BadLine.TheVariants.{NotHexadecimal, OddDigits, TooLong}
@@ -45,4 +45,4 @@ octets_in room (a ∷ b ∷ cs) =
 
 -- the octets that were read
 abbrev pub octets_of : LineOctets → List ℕ
-octets_of v = v.octets.items
+octets_of v = take v.count v.octets

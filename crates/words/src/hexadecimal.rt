@@ -1,9 +1,10 @@
 // Octets in hexadecimal: lines of them as a person writes them, and octets as the programs show them.
-ghost use Rattle.std.specs.Prelude.{◌≡◌, ◌<◌, ◌≤◌, length, IfSome, Ok, Err, MatchResult};
+ghost use Rattle.std.specs.Prelude.{◌≡◌, ◌<◌, ◌≤◌, [], ◌∷◌, ◌++◌, length};
+ghost use Rattle.std.specs.Prelude.{IfSome, OnOk, IfErr, Ok, Err, MatchResult};
+ghost use Rattle.words.specs.declared.line.BadLine.TheVariants.{TooLong};
 ghost use Rattle.words.specs.Hexadecimal.{is_blank, digit_in, lone_digit, octet_in, octets_in, octets_of};
 
-use crate::line::{BadLine, LineOctets};
-use arrayvec::ArrayVec;
+use crate::line::{BadLine, LONGEST, LineOctets};
 use std::fmt;
 
 // A space, a tab, or the carriage return with which some systems end a line.
@@ -46,16 +47,16 @@ pub fn octets_in_line(line: &[u8]) -> Result<LineOctets, BadLine>
     ensures { MatchResult result
         (λ v. octets_in 128 line.now ≡ Ok (octets_of v)) (λ e. octets_in 128 line.now ≡ Err e) }
 {
-    let mut octets = ArrayVec::new();
+    let mut octets = LineOctets::new();
     let mut rest = line;
     loop {
         match rest {
-            [] => return Ok(LineOctets { octets }),
+            [] => return Ok(octets),
             [first, tail @ ..] if is_blank(*first) => rest = tail,
             [only] => return Err(lone_digit(*only)),
             [high, low, tail @ ..] => {
                 let octet = octet(*high, *low)?;
-                octets.try_push(octet).map_err(|_| BadLine::TooLong)?;
+                octets.push(octet)?;
                 rest = tail;
             }
         }
@@ -63,11 +64,42 @@ pub fn octets_in_line(line: &[u8]) -> Result<LineOctets, BadLine>
 }
 
 impl LineOctets {
+    fn new() -> LineOctets
+        ensures { octets_of result ≡ [] }
+    {
+        LineOctets {
+            octets: [0; LONGEST],
+            count: 0,
+        }
+    }
+
+    // One octet more, if there is room for it.
+    fn push(&mut self, octet: u8) -> Result<(), BadLine>
+        ensures room { OnOk result (length (octets_of self.old) < 128) }
+        ensures more { OnOk result (octets_of self.new ≡ octets_of self.old ++ octet ∷ []) }
+        ensures full { IfErr result (λ bad. (bad ≡ TooLong) × (length (octets_of self.old) ≡ 128)) }
+    {
+        if self.count == LONGEST {
+            return Err(BadLine::TooLong);
+        }
+        self.octets[self.count] = octet;
+        self.count += 1;
+        Ok(())
+    }
+
     pub fn as_slice(&self) -> &[u8]
         ensures value { result.now ≡ octets_of self.now }
         ensures fits { length result.now ≤ 128 }
     {
-        self.octets.as_slice()
+        &self.octets[0..self.count]
+    }
+}
+
+impl fmt::Debug for LineOctets {
+    fn fmt<W: fmt::Write>(&self, f: &mut fmt::Formatter<W>) -> fmt::Result {
+        f.debug_struct("LineOctets")
+            .field("octets", &self.as_slice())
+            .finish()
     }
 }
 
