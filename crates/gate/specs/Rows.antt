@@ -1,5 +1,5 @@
 -- The rows of the gate: the latest stamp given of each pair of nodes, in the order in which pairs were first given.
-use Rattle.std.specs.Prelude.{ℕ, Bool, true, false, if◌then◌else◌, ◌&&◌, List, [], ◌∷◌, length, Option, nat_lt}
+use Rattle.std.specs.Prelude.{ℕ, Bool, true, false, if◌then◌else◌, ◌&&◌, List, [], ◌∷◌, length, take, Option, nat_lt}
 use Rattle.std.specs.List.{position}
 use Rattle.elements.specs.declared.node.NodeNumber.{NodeNumber}
 use Rattle.elements.specs.Nodes.{same_node}
@@ -7,7 +7,7 @@ use Rattle.gate.specs.declared.pairs.Pair.{Pair}
 use Rattle.gate.specs.declared.pairs.Pairs.{Pairs}
 
 abbrev pub rows_of : Pairs → List Pair
-rows_of t = t.rows.items
+rows_of t = take t.count t.rows
 
 -- is this the row of a to b?
 abbrev pub is_of : NodeNumber → NodeNumber → Pair → Bool

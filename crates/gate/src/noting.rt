@@ -1,9 +1,8 @@
 // Looking up and noting stamps.
-ghost use Rattle.std.specs.Prelude.{◌≡◌, [], if◌then◌else◌};
+ghost use Rattle.std.specs.Prelude.{◌≡◌, [], ◌∷◌, ◌++◌, length, nat_lt, if◌then◌else◌};
 ghost use Rattle.gate.specs.Rows.{is_of, spot, fresh, noted, rows_of};
 
-use crate::pairs::{Pair, Pairs};
-use arrayvec::ArrayVec;
+use crate::pairs::{PAIRS, Pair, Pairs};
 use carrier::route::Route;
 
 impl Pair {
@@ -20,7 +19,8 @@ impl Pairs {
         ensures { rows_of result ≡ [] }
     {
         Pairs {
-            rows: ArrayVec::new(),
+            rows: [Pair::default(); PAIRS],
+            count: 0,
         }
     }
 
@@ -28,7 +28,23 @@ impl Pairs {
     fn row_of(&self, route: Route) -> Option<usize>
         ensures { result ≡ spot route.source route.destination (rows_of self.now) }
     {
-        self.rows.iter().position(|row| row.is_of(route))
+        self.rows[..self.count]
+            .iter()
+            .position(|row| row.is_of(route))
+    }
+
+    // A row behind the others, if there is room for one.
+    fn push(&mut self, row: Pair) -> bool
+        ensures room { result ≡ nat_lt (length (rows_of self.old)) 16 }
+        ensures rows { rows_of self.new
+            ≡ (if result then rows_of self.old ++ row ∷ [] else rows_of self.old) }
+    {
+        if self.count == PAIRS {
+            return false;
+        }
+        self.rows[self.count] = row;
+        self.count += 1;
+        true
     }
 
     // Notes a stamp that is above the last given of its pair, if the pair has a row or can get one.
@@ -46,7 +62,7 @@ impl Pairs {
                 }
                 newer
             }
-            None => 0 < stamp && self.rows.try_push(Pair { route, stamp }).is_ok(),
+            None => 0 < stamp && self.push(Pair { route, stamp }),
         }
     }
 }

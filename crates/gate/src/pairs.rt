@@ -1,12 +1,11 @@
 // What the gate remembers: the stamp last given of each pair of nodes.
-ghost use Rattle.std.specs.Prelude.{◌≡◌};
+ghost use Rattle.std.specs.Prelude.{◌≡◌, ◌≤◌};
 
-use arrayvec::ArrayVec;
 use carrier::route::Route;
 use elements::node::NodeNumber;
 
 // So many pairs are remembered.
-const PAIRS: usize = 16;
+pub(crate) const PAIRS: usize = 16;
 
 #[derive(Clone, Copy)]
 pub struct Pair {
@@ -30,8 +29,11 @@ impl Default for Pair {
     }
 }
 
-// The first pairs given, at most 16, in the order in which they were first given.
-#[derive(Drop)]
+// The first `count` rows are those of the first pairs given, at most 16, in the order in which they were
+// first given. An array with its count, not an ArrayVec, so that what a gate remembers can be copied.
+#[derive(Clone, Copy)]
 pub struct Pairs {
-    pub rows: ArrayVec<Pair, PAIRS>,
+    pub rows: [Pair; PAIRS],
+    pub count: usize,
+    ghost few: { count ≤ 16 },
 }
