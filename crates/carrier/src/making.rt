@@ -53,11 +53,12 @@ impl Datagram {
         &self.octets[0..self.len]
     }
 
-    // What the octets say in front, lawful or not.
+    // What the octets say in front, lawful or not. Of the whole array, in which a header always has room, since
+    // a carrier asks this of each frame that waits.
     fn header(&self) -> Header
         ensures { result ≡ header_in (octets_in self.now) }
     {
-        header_in(self.as_slice()).unwrap()
+        header_in(&self.octets).unwrap()
     }
 
     // The node that the octets name as their source, lawful or not.
