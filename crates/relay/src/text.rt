@@ -1,5 +1,4 @@
 // The words of a line.
-use std::str;
 
 // The first word of a text, which does not begin with a blank, and what comes behind it.
 pub(crate) fn first_word(text: &[u8]) -> (&[u8], &[u8]) {
@@ -9,10 +8,13 @@ pub(crate) fn first_word(text: &[u8]) -> (&[u8], &[u8]) {
     text.split_at(end.unwrap_or(text.len()))
 }
 
-// The number from 0 to 255 that a word of decimal digits writes. A sign is no digit.
+// The number from 0 to 255 that a word of decimal digits writes. Read in one pass, since a script has many.
 pub(crate) fn number_in(word: &[u8]) -> Option<u8> {
-    if !word.iter().all(|character| character.is_ascii_digit()) {
+    if word.is_empty() {
         return None;
     }
-    str::from_utf8(word).ok()?.parse().ok()
+    word.iter().try_fold(0_u8, |number, character| {
+        let digit = character.is_ascii_digit().then_some(*character)? - b'0';
+        number.checked_mul(10)?.checked_add(digit)
+    })
 }
