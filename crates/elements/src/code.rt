@@ -79,7 +79,7 @@ impl Coded for UpdateType {
     ghost back = { update_back };
 
     fn octet(self) -> u8 {
-        self as u8
+        self as u8 // IMSI attach 1, normal 2
     }
 
     fn from_octet(octet: u8) -> Option<UpdateType> {
@@ -124,7 +124,7 @@ impl Coded for GprsDetachType {
     ghost back = { gprs_back };
 
     fn octet(self) -> u8 {
-        self as u8
+        self as u8 // by the network 1, by the mobile 2
     }
 
     fn from_octet(octet: u8) -> Option<GprsDetachType> {
