@@ -15,7 +15,7 @@ use Rattle.messages.specs.declared.message.Message.{Message}
 use Rattle.messages.specs.Kinds.{octet_of, kind_in}
 use Rattle.messages.specs.Lawful.{lawful_mobile}
 use Rattle.messages.proofs.Types.{kind_there, kind_back}
-use Rattle.messages.specs.Reading.{imsi_of, after_imsi, mobile_at, last_at, imsi_and_at, body_at, known_or, kind_at, message_at}
+use Rattle.messages.specs.Reading.{imsi_of, after_imsi, mobile_at, last_at, mobile_and_at, imsi_and_at, body_at, known_or, kind_at, message_at}
 
 -- the type octet chooses
 pub type_there : (s xs : List ℕ) (at : ℕ) (k : MessageType) → drop at s ≡ octet_of k ∷ xs → message_at s at ≡ body_at s (at + 1) k
@@ -91,7 +91,8 @@ last_read of e s at x lo hi r =
 -- an IMSI before it
 pub imsi_and_there : {X : Type 0} (of : ℕ → Option X) (e : Element) (make : Imsi → X → Message) (s : List ℕ) (at v : ℕ) (i : Imsi) (x : X) → drop at s ≡ imsi_element i ++ octet_element e v → lawful_mobile i ≡ true → least_of e ≡ 1 → most_of e ≡ 1 → of v ≡ Some x → imsi_and_at of e make s at ≡ Ok (make i x)
 imsi_and_there of e make s at v i x d l lo hi h =
-    then_there _ (mobile_there s (octet_element e v) at i d l) (then_there _ (last_there of e s (after_imsi at i) v x (mobile_past s (octet_element e v) at i d) lo hi h) refl)
+    let value = last_there of e s (after_imsi at i) v x (mobile_past s (octet_element e v) at i d) lo hi h in
+    then_there _ (then_there _ (mobile_there s (octet_element e v) at i d l) (then_there _ value refl)) refl
 
 pub record ImsiAnd {X : Type 0} (of : ℕ → Option X) (e : Element) (make : Imsi → X → Message) (s : List ℕ) (at : ℕ) (m : Message) : Type 0 where
   pub imsi : Imsi
@@ -104,15 +105,16 @@ pub record ImsiAnd {X : Type 0} (of : ℕ → Option X) (e : Element) (make : Im
 
 pub imsi_and_read : {X : Type 0} (of : ℕ → Option X) (e : Element) (make : Imsi → X → Message) (s : List ℕ) (at : ℕ) (m : Message) → least_of e ≡ 1 → most_of e ≡ 1 → imsi_and_at of e make s at ≡ Ok m → ImsiAnd of e make s at m
 imsi_and_read of e make s at m lo hi r =
-    let a = then_ok (mobile_at s at) _ m r in
+    let both = then_ok (mobile_and_at of e s at) _ m r in
+    let a = then_ok (mobile_at s at) _ both.0 both.1 in
     let i = a.0 in
     let mo = mobile_read s at i a.1 in
-    let b = then_ok (last_at of e s (after_imsi at i)) _ m a.2 in
+    let b = then_ok (last_at of e s (after_imsi at i)) _ both.0 a.2 in
     let la = last_read of e s (after_imsi at i) b.0 lo hi b.1 in
     record {
       imsi = i;
       value = b.0;
-      made = same_ok _ m b.2;
+      made = ◌∙◌ {b = make both.0.0 both.0.1} (ap (λ p. make p.0 p.1) (same_ok (i, b.0) both.0 b.2)) (same_ok _ m both.2);
       lawful = mo.lawful;
       octet = la.octet;
       stands = la.stands;

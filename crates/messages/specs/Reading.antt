@@ -29,12 +29,16 @@ mobile_at s at = and_then (imsi_at s at) (λ p. Ok (imsi_of p))
 abbrev pub last_at : {X : Type 0} → (ℕ → Option X) → Element → List ℕ → ℕ → Result X Fault
 last_at of e s at = and_then (coded_at of s at e) (λ x. end_at s (at + 3) x)
 
--- what is made of an IMSI and one coded element, then the end
-abbrev pub imsi_and_at : {X : Type 0} → (ℕ → Option X) → Element → (Imsi → X → Message) → List ℕ → ℕ → Result Message Fault
-imsi_and_at of e make s at =
+-- an IMSI and one coded element, then the end
+abbrev pub mobile_and_at : {X : Type 0} → (ℕ → Option X) → Element → List ℕ → ℕ → Result (Imsi × X) Fault
+mobile_and_at of e s at =
     and_then (mobile_at s at) (λ i.
     and_then (last_at of e s (after_imsi at i)) (λ x.
-    Ok (make i x)))
+    Ok (i, x)))
+
+-- what is made of the two
+abbrev pub imsi_and_at : {X : Type 0} → (ℕ → Option X) → Element → (Imsi → X → Message) → List ℕ → ℕ → Result Message Fault
+imsi_and_at of e make s at = and_then (mobile_and_at of e s at) (λ p. Ok (make p.0 p.1))
 
 abbrev pub paging_at : List ℕ → ℕ → Result Message Fault
 paging_at s at =

@@ -1,6 +1,6 @@
 // Octets to messages.
 ghost use Rattle.std.specs.Prelude.{◌≡◌, ◌+◌, drop, IfOk, OnOk};
-ghost use Rattle.messages.specs.Reading.{after_imsi, mobile_at, last_at, paging_at, lu_request_at};
+ghost use Rattle.messages.specs.Reading.{after_imsi, mobile_at, last_at, mobile_and_at, paging_at, lu_request_at};
 ghost use Rattle.messages.specs.Reading.{lu_accept_at, kind_at, message_at, ReadsExactly};
 
 use crate::kind::MessageType;
@@ -31,6 +31,15 @@ fn last<T: Coded + Drop>(mut from: Reader, element: Element) -> Result<T, Fault>
     let value = from.coded(element)?;
     from.end()?;
     Ok(value)
+}
+
+// An IMSI, and the value of an element of one octet, which must be the last.
+fn mobile_and<T: Coded + Drop>(mut from: Reader, element: Element) -> Result<(Imsi, T), Fault>
+    ensures { result ≡ mobile_and_at T.Coded.value_in element from.entry.octets.now from.entry.at }
+{
+    let imsi = mobile(&mut from)?;
+    let value = last(from, element)?;
+    Ok((imsi, value))
 }
 
 fn paging(mut from: Reader) -> Result<Message, Fault>
@@ -90,42 +99,42 @@ fn message(mut from: Reader) -> Result<Message, Fault>
 {
     match message_type(&mut from)? {
         MessageType::Paging => paging(from),
-        MessageType::PagingFailure => Ok(Message::PagingFailure {
-            imsi: mobile(&mut from)?,
-            cause: last(from, Element::Cause)?,
-        }),
-        MessageType::MobileStatus => Ok(Message::MobileStatus {
-            imsi: mobile(&mut from)?,
-            cause: last(from, Element::Cause)?,
-        }),
+        MessageType::PagingFailure => {
+            let (imsi, cause) = mobile_and(from, Element::Cause)?;
+            Ok(Message::PagingFailure { imsi, cause })
+        }
+        MessageType::MobileStatus => {
+            let (imsi, cause) = mobile_and(from, Element::Cause)?;
+            Ok(Message::MobileStatus { imsi, cause })
+        }
         MessageType::LuRequest => lu_request(from),
         MessageType::LuAccept => lu_accept(from),
-        MessageType::LuReject => Ok(Message::LuReject {
-            imsi: mobile(&mut from)?,
-            cause: last(from, Element::RejectCause)?,
-        }),
+        MessageType::LuReject => {
+            let (imsi, cause) = mobile_and(from, Element::RejectCause)?;
+            Ok(Message::LuReject { imsi, cause })
+        }
         MessageType::Reset => Ok(Message::Reset {
             entity: last(from, Element::Entity)?,
         }),
         MessageType::ResetAcknowledge => Ok(Message::ResetAcknowledge {
             entity: last(from, Element::Entity)?,
         }),
-        MessageType::GprsDetachIndication => Ok(Message::GprsDetachIndication {
-            imsi: mobile(&mut from)?,
-            detach: last(from, Element::GprsDetachType)?,
-        }),
-        MessageType::GprsDetachAcknowledge => Ok(Message::GprsDetachAcknowledge {
-            imsi: mobile(&mut from)?,
-            detach: last(from, Element::GprsDetachType)?,
-        }),
-        MessageType::ImsiDetachIndication => Ok(Message::ImsiDetachIndication {
-            imsi: mobile(&mut from)?,
-            detach: last(from, Element::ImsiDetachType)?,
-        }),
-        MessageType::ImsiDetachAcknowledge => Ok(Message::ImsiDetachAcknowledge {
-            imsi: mobile(&mut from)?,
-            detach: last(from, Element::ImsiDetachType)?,
-        }),
+        MessageType::GprsDetachIndication => {
+            let (imsi, detach) = mobile_and(from, Element::GprsDetachType)?;
+            Ok(Message::GprsDetachIndication { imsi, detach })
+        }
+        MessageType::GprsDetachAcknowledge => {
+            let (imsi, detach) = mobile_and(from, Element::GprsDetachType)?;
+            Ok(Message::GprsDetachAcknowledge { imsi, detach })
+        }
+        MessageType::ImsiDetachIndication => {
+            let (imsi, detach) = mobile_and(from, Element::ImsiDetachType)?;
+            Ok(Message::ImsiDetachIndication { imsi, detach })
+        }
+        MessageType::ImsiDetachAcknowledge => {
+            let (imsi, detach) = mobile_and(from, Element::ImsiDetachType)?;
+            Ok(Message::ImsiDetachAcknowledge { imsi, detach })
+        }
     }
 }
 
